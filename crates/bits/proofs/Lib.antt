@@ -1,0 +1,13 @@
+pub mod Below
+pub mod Through
+pub mod Xor
+pub mod Push
+pub mod Digits
+pub mod Mixed
+pub mod Packed
+pub mod Bytes
+pub mod Store
+pub mod Window
+pub mod Writes
+pub mod Packing
+pub mod Fields

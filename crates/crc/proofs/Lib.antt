@@ -1,0 +1,6 @@
+pub mod Steps
+pub mod Division
+pub mod Preset
+pub mod Word
+pub mod Turn
+pub mod Zeros

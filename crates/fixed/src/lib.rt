@@ -1,0 +1,6 @@
+// Facts about the fixed bits of a recording, SYNC and the dummy as they are written: there is no code here, and each
+// fact is shown once, by computation where that is the way. `proofs/` has them, over the definitions of `scramble`:
+//
+//   Sync      SYNC is the only sequence of its length that keeps the rule and ends with fifteen ones
+//   Openings  what SYNC opens and ends with, and what the printed opening is
+//   Windows   no window before the true one equals the tail; each differs from it in at least nine places

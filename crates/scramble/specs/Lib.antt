@@ -1,0 +1,4 @@
+pub mod Register
+pub mod Sync
+pub mod Wire
+pub mod Put
