@@ -6,8 +6,8 @@ use Prim.Native.Nat.{ℕ, zero, suc, _+_, _*_, _^_, _≤_, _<_}
 use native.Mathlib.Nat.{zero-mul, suc-mul, mod-eq-of-lt}
 use native.Mathlib.Numerals.{add-one}
 use native.Mathlib.Omega.{arith}
-use lib.ListN.{length, take, drop, length-append, length-drop, take-append-drop}
-use lib.Seq.{drop-drop, take-at, drop-at, length-take-le}
+use lib.ListN.{length, take, drop, length-append, length-drop}
+use lib.Seq.{drop-drop, take-at, drop-at, take-add, take-all, length-take-le}
 use Rattle.bits.specs.Bits.{digits, packedOf, bitsOf, part, numberOf, fieldsOf, Below}
 use Rattle.bits.proofs.Below.{below-append, below-take, below-drop}
 use Rattle.bits.proofs.Through.{number-lt}
@@ -68,17 +68,16 @@ fields-below w (suc n) bs l b =
     let rest : length (drop w bs) ≡ n * w = omega (arith, suc-mul n w, length-drop w bs) in
     (subst (λ (k : ℕ). numberOf (take w bs) < 2 ^ k) first (number-lt (take w bs) (below-take 2 w bs b)), fields-below w n (drop w bs) rest (below-drop 2 w bs b))
 
-pub packed-fields : (w n : ℕ) (bs : List ℕ) → length bs ≡ n * w → Below 2 bs → packedOf w (fieldsOf w n bs) ≡ bs
-unfolding fieldsOf packedOf
-packed-fields w zero [] l b = refl
-packed-fields w zero (x ∷ bs) l b = absurd (let z : ⊥ = omega (arith, zero-mul w) in z)
-packed-fields w (suc n) bs l b =
-    let h : w ≤ length bs = omega (arith, suc-mul n w) in
-    let rest : length (drop w bs) ≡ n * w = omega (arith, suc-mul n w, length-drop w bs) in
-    ap₂ (λ (x y : List ℕ). x ++ y)
-    (digits-number w (take w bs) (length-take-le w bs h) (below-take 2 w bs b))
-    (packed-fields w n (drop w bs) rest (below-drop 2 w bs b))
-    ∙ take-append-drop w bs
+pub packed-fields : (w n : ℕ) (bs : List ℕ) → n * w ≤ length bs → Below 2 bs → packedOf w (fieldsOf w n bs) ≡ take (n * w) bs
+unfolding packedOf fieldsOf
+packed-fields w zero bs h b = rw zero-mul
+packed-fields w (suc n) bs h b =
+    let e : suc n * w ≡ w + n * w = omega (arith, suc-mul n w) in
+    let l : length (take w bs) ≡ w = length-take-le w bs (omega arith) in
+    let rest : n * w ≤ length (drop w bs) = rw (length-drop w bs) (omega arith) in
+    ap₂ (λ (x y : List ℕ). x ++ y) (digits-number w (take w bs) l (below-take 2 w bs b)) (packed-fields w n (drop w bs) rest (below-drop 2 w bs b))
+    ∙ sym (take-add w (n * w) bs)
+    ∙ ap (λ (k : ℕ). take k bs) (sym e)
 
 -- bytes whose bits begin with bs and go on with those of ys: the bytes of bs, and then ys
 pub bytes-front : (n : ℕ) (xs bs ys : List ℕ) → Below 256 xs → Below 256 ys → length bs ≡ n * 8 → Below 2 bs → bitsOf xs ≡ bs ++ bitsOf ys → xs ≡ fieldsOf 8 n bs ++ ys
@@ -88,4 +87,4 @@ bytes-front n xs bs ys hx hy l b e =
     let long : length xs ≡ length (front ++ ys) =
     omega (arith, ap length e, length-packed 8 xs, length-packed 8 ys, length-append bs (packedOf 8 ys), length-append front ys, length-fields 8 n bs) in
     packed-inj 8 xs (front ++ ys) long hx (below-append 256 front ys (fields-below 8 n bs l b) hy)
-    (e ∙ sym (packed-append 8 front ys ∙ ap (λ (r : List ℕ). r ++ packedOf 8 ys) (packed-fields 8 n bs l b)))
+    (e ∙ sym (packed-append 8 front ys ∙ ap (λ (r : List ℕ). r ++ packedOf 8 ys) (packed-fields 8 n bs (omega arith) b ∙ take-all (n * 8) bs (omega arith))))

@@ -1,0 +1,9 @@
+pub mod Ranges
+pub mod Table
+pub mod Base
+pub mod Nines
+pub mod Signs
+pub mod Answers
+pub mod Puts
+pub mod RoundTrip
+pub mod Paper

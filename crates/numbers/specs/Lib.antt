@@ -1,0 +1,5 @@
+pub mod Integers
+pub mod Decimals
+pub mod Reals
+pub mod Floats
+pub mod Written

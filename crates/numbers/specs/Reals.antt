@@ -1,0 +1,38 @@
+-- R*n.m, n 4 or 6, m 0 to 15: a sign bit, a magnitude in the other 31 or 47 bits, the first bit the highest, and m decimal
+-- places. A set sign bit over a magnitude of 0 is a negative zero, and stays one. Assumes nothing.
+use mathlib.Core.Bool.{Bool, true, false, not, _&&_, _||_, cond}
+use mathlib.Core.List.{List}
+use Prim.Native.Nat.{ℕ, _*_, _-_}
+use lib.Dec.{eqb, ltb}
+use lib.ListN.{length, getD}
+use Rattle.bits.specs.Bits.{bitsOf, part, numberOf}
+use Rattle.numbers.specs.declared.R.{R}
+use Rattle.numbers.specs.declared.Real.{Real}
+use Rattle.numbers.specs.declared.Real.the-variants.{Is, Refused}
+
+-- no R*n.m of the paper
+unfoldable pub noReal : ℕ → ℕ → Bool
+noReal n m = (not (eqb n 4) && not (eqb n 6)) || ltb 15 m
+
+-- the sign bit is set for a negative number
+abbrev pub signBit : Bool → ℕ
+signBit true = 1
+signBit false = 0
+
+-- how many bits the magnitude has
+abbrev pub magnitudeBits : ℕ → ℕ
+magnitudeBits n = 8 * n - 1
+
+-- the number that stands in the first n bytes
+unfoldable pub realIn : ℕ → ℕ → List ℕ → R
+realIn n m bytes = record {
+  negative = eqb (getD (bitsOf bytes) 0 0) 1;
+  magnitude = numberOf (part bytes 1 (magnitudeBits n));
+  places = m;
+}
+
+unfoldable pub realOf : ℕ → ℕ → List ℕ → Real
+realOf n m bytes =
+    cond (noReal n m) (Refused 10)
+    (cond (ltb (length bytes) n) (Refused 2)
+    (Is (realIn n m bytes)))

@@ -1,0 +1,38 @@
+//! The second decoder: S-VISSR 2.0 and HiRID lines, bit by bit.
+//!
+//! Document 01 ("S-VISSR 2.0 and HiRID lines: build description and exact
+//! rules") asks that "whole-line vectors and an independent second decoder
+//! are run and compared". This is that second decoder. It is written from
+//! document 01 alone and shares no code with anything else. It is meant to be
+//! held beside the paper and found right by reading: lists of bits, short
+//! functions, no tricks. Speed does not matter.
+//!
+//! Every call that can refuse gives `Result<_, Refusal>`; `Err(number)` stands
+//! for the paper's "returns its number and 0 elsewhere". A refused call leaves
+//! its state and its buffers as they were.
+//!
+//! Ordinal numbers (format, sector, channel, block, level, row, column) are
+//! `usize`, so that every wrong number can be asked for.
+
+#![forbid(unsafe_code)]
+
+pub mod refusal;
+
+pub mod bits;
+pub mod format;
+pub mod scramble;
+
+pub mod lines;
+pub mod reader;
+
+pub mod sectors;
+
+pub mod numbers;
+
+pub mod blocks;
+pub mod document;
+
+pub mod damage;
+pub mod listing;
+pub mod pattern;
+pub mod vectors;

@@ -1,0 +1,161 @@
+//! The test pattern of `second signal N FORMAT`, said so exactly that another
+//! program can make the same bytes.
+//!
+//! The recording is N lines on the wire, one behind the other, each as
+//! [`crate::scramble::write_line`] writes it: nothing before, between or
+//! after. Lines are numbered k = 0, 1, ..., N-1. All arithmetic below is on
+//! whole numbers; `div` is the quotient without its rest, `mod` the rest.
+//!
+//! Every sector has its own ID, the right check word and zero filler.
+//!
+//! **Sector 1 (DOC).** The byte at place p (3 to 2,293; places from 1, ID
+//! included) of line k is given by the first row that names p:
+//!
+//! | p | byte |
+//! |---|---|
+//! | 3 | k mod 4 picks from 00, 0F, FF, 5A |
+//! | 7-8 | 01 00 (set line 100) |
+//! | 9-10 | 23 91 (reset line 2,391) |
+//! | 11-12 | (100 + k) mod 10,000 as BCD*2 (scan count) |
+//! | 20-27 | the date, see below |
+//! | 67 | k mod 5 picks from FF, F0, 00, 0F, A5 |
+//! | 193, 195 | 0 |
+//! | 194 | (k div 8) mod 25, the segment |
+//! | 196 | k mod 8, the repeat |
+//! | 197-1090, in format 1 197-2114 | the segment of each block, see below |
+//! | 1091-2293, in format 1 2115-2293 | 0 |
+//! | any other | (37p + 11k) mod 256 |
+//!
+//! **Date.** A line is 60 hundredths of a second (600 ms) after the one
+//! before. With t = 60k, the date is, all as BCD: hundredths t mod 100, second
+//! (t div 100) mod 60, minute (t div 6,000) mod 60, hour (t div 360,000) mod
+//! 24; with d = t div 8,640,000, day 1 + d mod 28, month 1 + (d div 28) mod 12,
+//! year (2005 + d div 336) mod 10,000. So line 0 is 2005-01-01 00:00:00.00. A
+//! month has 28 days here; only lines past the 28th day show it.
+//!
+//! **Blocks.** Blocks are b = 1 mapping, 2 orbit, 3 MANAM, 4 calibration-1,
+//! 5 calibration-2. Byte q of block b (q from 1 to its size) is
+//! ((q x q + 97 x b x q) div 5) mod 256. A line carries, for each block, the
+//! bytes of its segment: place p of a block that begins at place f and has
+//! segments of z bytes holds byte q = segment x z + (p - f) + 1.
+//!
+//! **Pixels.** Pixel j (from 0) of sector s (2 to 12), w bits wide, of line k
+//! is (j x (2s + k + 1) + j div 3 + 5s + k) mod 2^w.
+
+use crate::blocks::{Block, BLOCKS, CALIBRATION_2};
+use crate::document::LAST_PLACE;
+use crate::format::{format, LINE_BYTES};
+use crate::refusal::Refusal;
+use crate::scramble::write_line;
+use crate::sectors::{put_data, put_pixels, Sector, SECTORS};
+
+/// The last `2n` decimal digits of a value, two to a byte.
+pub fn bcd(value: u64, n: usize) -> Vec<u8> {
+    (0..n as u32)
+        .rev()
+        .map(|i| value / 100u64.pow(i) % 100)
+        .map(|two| (two / 10 * 16 + two % 10) as u8)
+        .collect()
+}
+
+/// Byte q of block b, both from 1.
+pub fn block_byte(b: usize, q: usize) -> u8 {
+    ((q * q + 97 * b * q) / 5 % 256) as u8
+}
+
+/// The whole of block b.
+pub fn block(b: usize) -> Vec<u8> {
+    (1..=BLOCKS[b - 1].size).map(|q| block_byte(b, q)).collect()
+}
+
+/// The eight bytes of the date of line k.
+pub fn date(k: u64) -> Vec<u8> {
+    let t = 60 * k;
+    let d = t / 8_640_000;
+    let mut date = bcd((2005 + d / 336) % 10_000, 2);
+    date.extend(bcd(1 + d / 28 % 12, 1));
+    date.extend(bcd(1 + d % 28, 1));
+    date.extend(bcd(t / 360_000 % 24, 1));
+    date.extend(bcd(t / 6_000 % 60, 1));
+    date.extend(bcd(t / 100 % 60, 1));
+    date.extend(bcd(t % 100, 1));
+    date
+}
+
+/// The data of the sector DOC of line k.
+pub fn doc(format_number: usize, k: u64) -> Vec<u8> {
+    let segment = (k / 8 % 25) as usize;
+
+    // Index p is place p; the places 0 to 2 are thrown away at the end.
+    let mut sector = vec![0; LAST_PLACE + 1];
+    for (p, byte) in sector.iter_mut().enumerate().take(193) {
+        *byte = ((37 * p as u64 + 11 * k) % 256) as u8;
+    }
+    let mut place = |first: usize, bytes: &[u8]| {
+        sector[first..first + bytes.len()].copy_from_slice(bytes);
+    };
+    place(3, &[[0x00, 0x0F, 0xFF, 0x5A][(k % 4) as usize]]);
+    place(7, &bcd(100, 2));
+    place(9, &bcd(2_391, 2));
+    place(11, &bcd((100 + k) % 10_000, 2));
+    place(20, &date(k));
+    place(67, &[[0xFF, 0xF0, 0x00, 0x0F, 0xA5][(k % 5) as usize]]);
+    place(193, &[0, segment as u8, 0, (k % 8) as u8]);
+    for b in 1..=5 {
+        if format_number == 1 || b != CALIBRATION_2 {
+            place(BLOCKS[b - 1].first, &segment_of(b, &BLOCKS[b - 1], segment));
+        }
+    }
+    sector.split_off(3)
+}
+
+fn segment_of(b: usize, block: &Block, segment: usize) -> Vec<u8> {
+    let before = segment * block.segment_bytes();
+    (1..=block.segment_bytes())
+        .map(|i| block_byte(b, before + i))
+        .collect()
+}
+
+/// Pixel j of sector s of line k.
+pub fn pixel(s: usize, j: usize, k: u64) -> u16 {
+    let (s64, j64) = (s as u64, j as u64);
+    let value = j64 * (2 * s64 + k + 1) + j64 / 3 + 5 * s64 + k;
+    (value % (1 << SECTORS[s - 1].width)) as u16
+}
+
+/// All pixels of sector s of line k.
+pub fn pixels(s: usize, k: u64) -> Vec<u16> {
+    let sector: &Sector = &SECTORS[s - 1];
+    (0..sector.count).map(|j| pixel(s, j, k)).collect()
+}
+
+/// The plain line k.
+pub fn line(format_number: usize, k: u64) -> Result<Vec<u8>, Refusal> {
+    let mut line = vec![0; LINE_BYTES];
+    put_data(format_number, &mut line, 1, &doc(format_number, k))?;
+    for s in 2..=12 {
+        put_pixels(format_number, &mut line, s, &pixels(s, k))?;
+    }
+    Ok(line)
+}
+
+/// A line of zeros "with right IDs, check words and filler".
+pub fn line_of_zeros(format_number: usize) -> Result<Vec<u8>, Refusal> {
+    let mut line = vec![0; LINE_BYTES];
+    for s in 1..=12 {
+        put_data(
+            format_number,
+            &mut line,
+            s,
+            &vec![0; SECTORS[s - 1].data_bytes()],
+        )?;
+    }
+    Ok(line)
+}
+
+/// A plain line as it goes out, in a list of its own.
+pub fn on_the_wire(format_number: usize, line: &[u8]) -> Result<Vec<u8>, Refusal> {
+    let mut wire = vec![0; format(format_number)?.wire_bytes];
+    write_line(format_number, line, &mut wire)?;
+    Ok(wire)
+}

@@ -1,0 +1,60 @@
+//! "Refusal numbers ... Tested from the top; the first that applies is given.
+//! Every refusal returns its number and 0 elsewhere and leaves state and
+//! buffers as at entry."
+//!
+//! The constants stand in the order of the paper's table, which is the order
+//! in which every call tests them. The order is not that of the numbers.
+
+/// A refusal number of the table.
+pub type Refusal = u8;
+
+/// "format is neither 1 nor 2"
+pub const FORMAT: Refusal = 1;
+
+/// "state record impossible: ... a segment mark above 24"
+pub const STATE: Refusal = 12;
+
+/// "sector, channel or block number is not one this call serves;
+/// calibration-2 in format 2"
+pub const NUMBER: Refusal = 4;
+
+/// "level, grid point, number size n or decimal places outside the range; a
+/// pixel over its width among those the sector takes"
+pub const RANGE: Refusal = 10;
+
+/// "magnitude over 2^31-1 (n 4) or 2^47-1 (n 6) on writing"
+pub const MAGNITUDE: Refusal = 11;
+
+/// "line buffer under 44,356 bytes, block buffer under its size, or number
+/// bytes, sector data or pixels fewer than needed"
+pub const SHORT_INPUT: Refusal = 2;
+
+/// "output shorter than the result"
+pub const SHORT_OUTPUT: Refusal = 3;
+
+/// "sector remainder not 0"
+pub const REMAINDER: Refusal = 5;
+
+/// "remainder 0, ID not its own"
+pub const ID: Refusal = 6;
+
+/// "BCD digit over 9, date part out of range, byte 193 or 195 not 0, segment
+/// above 24, repeat above 7"
+pub const DIGIT: Refusal = 7;
+
+/// "segment differs from the stored one"
+pub const SEGMENT: Refusal = 8;
+
+/// "entry asked of a block without all 25 segments"
+pub const INCOMPLETE: Refusal = 9;
+
+/// Refuses with `number` when `applies`.
+///
+/// A call written as a column of these reads like the table, from the top.
+pub fn refuse_if(applies: bool, number: Refusal) -> Result<(), Refusal> {
+    if applies {
+        Err(number)
+    } else {
+        Ok(())
+    }
+}
