@@ -5,6 +5,7 @@ pub mod Push
 pub mod Digits
 pub mod Mixed
 pub mod Packed
+pub mod Zeros
 pub mod Bytes
 pub mod Store
 pub mod Window

@@ -1,16 +1,16 @@
 -- P1, P2, .. hold: THE LIST. Assumes nothing.
+use mathlib.Core.List.{List, [], _∷_, append-nil}
 use mathlib.Core.Path.{_≡_, refl, sym, ap, _∙_}
-use mathlib.Core.List.{List, [], _∷_, _++_}
 use Prim.Native.Nat.{ℕ}
 use lib.ListN.{take, replicate}
 use Rattle.bits.specs.Bits.{digits, packedOf, bitsOf, through, longer, inBase, numberOf, fieldsOf}
-use Rattle.crc.specs.Remainder.{next, preset, remainderOf, checkWordOf}
-use Rattle.crc.proofs.Word.{checked}
-use Rattle.crc.proofs.Zeros.{word-zeros}
+use Rattle.numbers.proofs.Paper.{p8, p9, p10, p11, p11-refused}
 use Rattle.scramble.specs.Register.{newBit, nextRegister, scramblingBits}
 use Rattle.scramble.specs.Sync.{fifteenOnes}
 use Rattle.scramble.specs.Wire.{complemented, scrambled, wireOf, informationOf}
-use Rattle.demands.specs.Edges.{docEnding, Edges}
+use Rattle.sectors.specs.Layout.{sectors, layoutOf}
+use Rattle.sector_writer.proofs.Points.{p3-word, p3-accepted, p4, p5, p6, p7}
+use Rattle.demands.specs.Edges.{docWord, Edges}
 
 p1 : fieldsOf 8 4 (scramblingBits 32 fifteenOnes) ≡ 0x00 ∷ 0x02 ∷ 0x00 ∷ 0x0c ∷ []
 unfolding fieldsOf numberOf inBase through longer scramblingBits newBit nextRegister
@@ -20,28 +20,36 @@ p2 : (rest : List ℕ) → take 32 (informationOf (bitsOf (0x00 ∷ 0x00 ∷ 0x0
 unfolding informationOf wireOf complemented scrambled newBit nextRegister bitsOf packedOf digits
 p2 rest = refl
 
--- the check words of what stands behind the zeros
-none : checkWordOf 0 [] ≡ 0x0000
-unfolding checkWordOf remainderOf preset through next
-none = refl
+-- DOC: where it starts, its bits, and its data bits
+doc-data : 18328 ≡ layoutOf 1 .«data_bits»
+unfolding layoutOf sectors
+doc-data = refl
 
-last : checkWordOf 0 (1 ∷ []) ≡ 0x1021
-unfolding checkWordOf remainderOf preset through next
-last = refl
+doc-start : layoutOf 1 .start ≡ 0
+unfolding layoutOf sectors
+doc-start = refl
 
-one-before : checkWordOf 0 (1 ∷ 0 ∷ []) ≡ 0x2042
-unfolding checkWordOf remainderOf preset through next
-one-before = refl
+doc-bits : layoutOf 1 .bits ≡ 20408
+unfolding layoutOf sectors
+doc-bits = refl
 
-p3-word : checkWordOf 0 (docEnding 18344 []) ≡ 0x0000
-p3-word = word-zeros 18344 [] ∙ none
+p3 : (format : ℕ) → docWord format (replicate 18328 0) ≡ 0x0000
+p3 format = ap (docWord format) (sym (append-nil (replicate 18328 0))) ∙ p3-word format 18328 doc-data
 
 pub edges : Edges
 edges =
     record {
       P1 = p1;
       P2 = p2;
-      P3 = (p3-word, ap (λ (w : ℕ). remainderOf 0 (docEnding 18344 [] ++ digits 16 w)) (sym p3-word) ∙ checked 0 (docEnding 18344 []));
-      P4 = word-zeros 18343 (1 ∷ []) ∙ last;
-      P5 = word-zeros 18342 (1 ∷ 0 ∷ []) ∙ one-before;
+      P3 = p3;
+      P3-accepted = λ format line e. p3-accepted format line (rw (doc-start, doc-bits) e);
+      P4 = λ format. p4 format 18327 doc-data;
+      P5 = λ format. p5 format 18326 doc-data;
+      P6 = p6;
+      P7 = p7;
+      P8 = p8;
+      P9 = p9;
+      P10 = p10;
+      P11 = p11;
+      P11-refused = p11-refused;
     }

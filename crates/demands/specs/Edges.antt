@@ -1,26 +1,52 @@
 -- The edges that document 01 marks P, as one list, each over the rules themselves. Assumes nothing.
-use mathlib.Core.Path.{_≡_}
+use mathlib.Core.Bool.{true, false}
 use mathlib.Core.List.{List, [], _∷_, _++_}
+use mathlib.Core.Path.{_≡_}
 use Prim.Native.Nat.{ℕ, _+_}
 use lib.ListN.{take, replicate}
-use Rattle.bits.specs.Bits.{digits, bitsOf, fieldsOf}
-use Rattle.crc.specs.Remainder.{remainderOf, checkWordOf}
+use Rattle.bits.specs.Bits.{bitsOf, fieldsOf}
+use Rattle.crc.specs.Remainder.{checkWordOf}
+use Rattle.numbers.specs.Integers.{integerOf}
+use Rattle.numbers.specs.Decimals.{bcdOf}
+use Rattle.numbers.specs.Reals.{realOf}
+use Rattle.numbers.specs.declared.Integer.the-variants as integer
+use Rattle.numbers.specs.declared.Bcd.the-variants as bcd
+use Rattle.numbers.specs.declared.Real.the-variants as real
 use Rattle.scramble.specs.Register.{scramblingBits}
 use Rattle.scramble.specs.Sync.{fifteenOnes}
 use Rattle.scramble.specs.Wire.{informationOf}
+use Rattle.sectors.specs.Asked.{checkStart}
+use Rattle.sectors.specs.Layout.{layoutOf}
+use Rattle.sectors.specs.Sector.{stretch, answerOf, joinedOf}
+use Rattle.sector_writer.specs.Written.{headOf}
 
--- ID and data of a DOC sector whose last data bits are given and whose others are zeros: 16 and 18,328 bits
-abbrev pub docEnding : ℕ → List ℕ → List ℕ
-docEnding zeros last = replicate zeros 0 ++ last
+-- the check word of a DOC sector, ID and data, in a format
+abbrev pub docWord : ℕ → List ℕ → ℕ
+docWord format bits = checkWordOf (checkStart format) (headOf (layoutOf 1) bits)
 
 pub record Edges : Type 0 where
   -- the first four scrambling bytes after SYNC are 00 02 00 0C
   pub P1 : fieldsOf 8 4 (scramblingBits 32 fifteenOnes) ≡ 0x00 ∷ 0x02 ∷ 0x00 ∷ 0x0c ∷ []
   -- a plain line opening 00 00 00 00 goes out as 00 FD 00 F3
   pub P2 : (rest : List ℕ) → take 32 (informationOf (bitsOf (0x00 ∷ 0x00 ∷ 0x00 ∷ 0x00 ∷ rest))) ≡ bitsOf (0x00 ∷ 0xfd ∷ 0x00 ∷ 0xf3 ∷ [])
-  -- a DOC sector of zeros has check word 0000, and with it the remainder 0
-  pub P3 : (checkWordOf 0 (docEnding 18344 []) ≡ 0x0000) × (remainderOf 0 (docEnding 18344 [] ++ digits 16 0x0000) ≡ 0)
+  -- a DOC sector of zeros, 18,328 data bits, has check word 0000 ..
+  pub P3 : (format : ℕ) → docWord format (replicate 18328 0) ≡ 0x0000
+  -- .. and is accepted, in any line
+  pub P3-accepted : (format : ℕ) (line : List ℕ) → stretch line 0 20408 ≡ replicate 20408 0 → answerOf (checkStart format) (layoutOf 1) line ≡ 0
   -- only the last data bit set: 1021
-  pub P4 : checkWordOf 0 (docEnding 18343 (1 ∷ [])) ≡ 0x1021
+  pub P4 : (format : ℕ) → docWord format (replicate 18327 0 ++ 1 ∷ []) ≡ 0x1021
   -- only the one before: 2042
-  pub P5 : checkWordOf 0 (docEnding 18342 (1 ∷ 0 ∷ [])) ≡ 0x2042
+  pub P5 : (format : ℕ) → docWord format (replicate 18326 0 ++ 1 ∷ 0 ∷ []) ≡ 0x2042
+  -- upper 255, lower 3: 1023
+  pub P6 : joinedOf (255 ∷ []) (3 ∷ []) ≡ 1023 ∷ []
+  -- upper 1, lower 0: 4
+  pub P7 : joinedOf (1 ∷ []) (0 ∷ []) ≡ 4 ∷ []
+  -- 00 00 07 B5 as R*4.2 is 1973 with 2 places
+  pub P8 : realOf 4 2 (0x00 ∷ 0x00 ∷ 0x07 ∷ 0xb5 ∷ []) ≡ real.Is (record { negative = false; magnitude = 1973; places = 2 })
+  -- 80 C8 10 42 as R*4.5 is minus 13111362 with 5 places
+  pub P9 : realOf 4 5 (0x80 ∷ 0xc8 ∷ 0x10 ∷ 0x42 ∷ []) ≡ real.Is (record { negative = true; magnitude = 13111362; places = 5 })
+  -- 2D 9C as I*2 is 11676
+  pub P10 : integerOf 2 (0x2d ∷ 0x9c ∷ []) ≡ integer.Is 11676
+  -- 97 65 as BCD is 9765; 9A 65 is refusal 7
+  pub P11 : bcdOf 2 (0x97 ∷ 0x65 ∷ []) ≡ bcd.Is 9765
+  pub P11-refused : bcdOf 2 (0x9a ∷ 0x65 ∷ []) ≡ bcd.Refused 7

@@ -1,4 +1,4 @@
--- What SYNC opens and ends with; the tail as a number; and what the opening that 000 prints for 10,000 bits is. Read as
+-- What SYNC opens and ends with, and what the opening that 000 prints for 10,000 bits is. Read as
 -- SYNC's first fifteen bits it leads to no fifteen ones. It is the fifteen bits before SYNC's first. Assumes nothing.
 use mathlib.Core.Path.{_≡_, refl, sym, ap, _∙_, subst}
 use mathlib.Core.Logic.{_≢_}
@@ -7,9 +7,9 @@ use Prim.Native.Nat.{ℕ, _+_}
 use native.Mathlib.Omega.{arith}
 use lib.Dec.{lit≤}
 use lib.ListN.{take, drop, getD}
-use Rattle.bits.specs.Bits.{digits, numberOf, inBase, through, longer}
+use Rattle.bits.specs.Bits.{numberOf, inBase, through, longer}
 use Rattle.scramble.specs.Register.{newBit, nextRegister, registerAfter, scramblingBits}
-use Rattle.scramble.specs.Sync.{IsSync, earlierRegister, registerBefore, fifteenOnes, SYNC, tail}
+use Rattle.scramble.specs.Sync.{IsSync, earlierRegister, registerBefore, fifteenOnes, SYNC}
 use Rattle.scramble.proofs.Opening.{before-1}
 use Rattle.fixed.proofs.Sync.{sync-only, sync-ends}
 
@@ -48,12 +48,3 @@ ends-30 n = sync-ends n 30 ∙ last
   where
     last : SYNC 30 ≡ 0 ∷ 1 ∷ 0 ∷ 1 ∷ 0 ∷ 1 ∷ 0 ∷ 1 ∷ 0 ∷ 1 ∷ 0 ∷ 1 ∷ 0 ∷ 1 ∷ 0 ∷ 1 ∷ 1 ∷ 1 ∷ 1 ∷ 1 ∷ 1 ∷ 1 ∷ 1 ∷ 1 ∷ 1 ∷ 1 ∷ 1 ∷ 1 ∷ 1 ∷ 1 ∷ []
     last = unfold SYNC registerBefore earlierRegister scramblingBits newBit nextRegister in refl
-
--- the tail, as the number that the reader compares with
-pub tail-digits : tail ≡ digits 64 0x4bbbb99995557fff
-unfolding tail SYNC registerBefore earlierRegister scramblingBits newBit nextRegister digits
-tail-digits = refl
-
-pub tail-number : numberOf tail ≡ 0x4bbbb99995557fff
-unfolding tail SYNC registerBefore earlierRegister scramblingBits newBit nextRegister numberOf inBase through longer
-tail-number = refl

@@ -3,12 +3,13 @@
 use mathlib.Core.Path.{_≡_, refl, sym, ap, ap₂, _∙_}
 use mathlib.Core.List.{List, [], _∷_, _++_, append-assoc}
 use Prim.Native.Nat.{ℕ, zero, suc, _+_, _*_, _/_, _≤_, _<_}
-use native.Mathlib.Nat.{zero-add, add-mul, suc-mul}
+use native.Mathlib.Nat.{zero-add, add-mul}
 use native.Mathlib.Omega.{arith}
-use lib.ListN.{length, take, drop, replicate, length-append, length-replicate, length-drop, replicate-append-replicate}
+use lib.ListN.{length, take, drop, replicate, length-append, length-replicate}
 use lib.Seq.{take-at, drop-at, drop-drop, length-take-le}
-use Rattle.bits.specs.Bits.{digits, packedOf, bitsOf, part}
+use Rattle.bits.specs.Bits.{bitsOf, part}
 use Rattle.bits.proofs.Bytes.{length-bits, bits-append, bits-take, bits-drop}
+use Rattle.bits.proofs.Zeros.{packed-zeros}
 use Rattle.formats.specs.Formats.{formatOf, informationBits, lineBytes}
 use Rattle.formats.specs.declared.Known.the-variants.{Is}
 use Rattle.formats.proofs.Which.{parts}
@@ -35,16 +36,9 @@ bytes-put o t at n =
     ∙ ap₂ (λ (x y : List ℕ). x ++ y) (bits-append (take at o) t ∙ ap (λ (x : List ℕ). x ++ bitsOf t) (sym (bits-take o at)))
     (sym (bits-drop o (at + n)) ∙ ap (λ (k : ℕ). drop k (bitsOf o)) (add-mul at n 8))
 
-pub bits-zeros : (n : ℕ) → bitsOf (replicate n 0) ≡ replicate (n * 8) 0
-unfolding bitsOf packedOf digits
-bits-zeros zero = refl
-bits-zeros (suc n) =
-    ap (λ (l : List ℕ). replicate 8 0 ++ l) (bits-zeros n)
-    ∙ replicate-append-replicate 8 (n * 8) 0
-    ∙ ap (λ (k : ℕ). replicate k 0) eight
-  where
-    eight : 8 + n * 8 ≡ suc n * 8
-    eight = omega (arith, suc-mul n 8)
+bits-zeros : (n : ℕ) → bitsOf (replicate n 0) ≡ replicate (n * 8) 0
+unfolding bitsOf
+bits-zeros n = packed-zeros 8 n
 
 -- ---- the four steps, s SYNC bits, the line l of i bits and d dummy bits
 module _ (b sync l : List ℕ) (s i d : ℕ) (sync-long : length sync ≡ s) (line-long : length l ≡ i) where

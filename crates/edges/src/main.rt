@@ -1,0 +1,330 @@
+// Both sides of each edge that document 01 names for the reader, as runs: one line of output for each. The expected
+// lines in `stdout` follow from document 01, and not from a run of this program.
+//
+// A recording here is noise of one byte, tails where the edge has them, and information bits that are the noise too. With
+// noise of zeros the plain line opens with the scrambling bytes after SYNC, every second one inverted: 00 FD 00 F3.
+ghost use Prim.Native.Nat.{_≤_, _<_};
+ghost use lib.ListN.{length};
+use libc::STDOUT_FILENO;
+use reader::Answer;
+use reader::State;
+
+// The bytes that a recording here can have, and those of a line.
+const SPACE: usize = 89000;
+
+const LINE: usize = 44356;
+
+// A run of calls: the place of the next byte, the record, the lines handed out; and of the last one the bytes taken up to
+// it and the bits of the last byte that were still unread.
+struct Run {
+    at: usize,
+    state: State,
+    lines: u64,
+    ended: usize,
+    unread: u8,
+}
+
+fn say(text: &[u8]) {
+    io::write_all(STDOUT_FILENO, text);
+}
+
+fn number(before: &[u8], n: u64) {
+    say(before);
+    io::print_decimal(STDOUT_FILENO, n);
+}
+
+fn wide(n: usize) -> u64 {
+    n as u64
+}
+
+fn byte(n: u8) -> u64 {
+    n as u64
+}
+
+// Noise of one byte, over all of the space.
+fn noise(rec: &mut [u8; SPACE], v: u8) {
+    let mut i: usize = 0;
+    while i < SPACE {
+        rec[i] = v;
+        i += 1;
+    }
+}
+
+// The tail, at a bit place.
+fn put_tail(rec: &mut [u8; SPACE], at: usize)
+    requires { ⌜ at ≤ 711000 ⌝ }
+{
+    bits::put_field(rec, at, 16, 0x4bbb);
+    bits::put_field(rec, at + 16, 16, 0xb999);
+    bits::put_field(rec, at + 32, 16, 0x9555);
+    bits::put_field(rec, at + 48, 16, 0x7fff);
+}
+
+// The end of a piece of at most size bytes.
+fn end_of(at: usize, size: usize, all: usize) -> usize
+    requires { ⌜ at ≤ all ⌝ }
+    ensures { λ r. ⌜ (at ≤ r) × (r ≤ all) ⌝ }
+{
+    if size > all - at {
+        return all;
+    }
+    at + size
+}
+
+// A run after one more answer.
+fn after(r: Run, a: Answer, all: usize) -> Run
+    requires { ⌜ r .at ≤ all ⌝ }
+    ensures { λ o. ⌜ o .at ≤ all ⌝ }
+{
+    match a {
+        Answer::Refused(_) => r,
+        Answer::More { taken, state } => Run {
+            at: end_of(r.at, taken, all),
+            state: state,
+            lines: r.lines,
+            ended: r.ended,
+            unread: r.unread,
+        },
+        Answer::Line { taken, state } => {
+            let at = end_of(r.at, taken, all);
+            Run {
+                at: at,
+                state: state,
+                lines: std::num::wrapping_add_u64(r.lines, 1),
+                ended: at,
+                unread: state.unread_count,
+            }
+        }
+    }
+}
+
+// One call, on the next piece of at most size bytes.
+fn turn(r: Run, rec: &[u8], size: usize, line: &mut [u8; LINE]) -> Run
+    requires { ⌜ r .at ≤ length (now rec) ⌝ }
+    ensures { λ o. ⌜ o .at ≤ length (now (rec .entry)) ⌝ }
+{
+    let at = r.at;
+    if at == rec.len() {
+        return r;
+    }
+    let end = end_of(at, size, rec.len());
+    let a = reader::read(1, r.state, &rec[at..end], line);
+    after(r, a, rec.len())
+}
+
+// A fresh reader over a recording in pieces of at most size bytes, each unread rest offered again.
+fn drive(rec: &[u8], size: usize, line: &mut [u8; LINE]) -> Run {
+    let mut r = Run {
+        at: 0,
+        state: reader::fresh(),
+        lines: 0,
+        ended: 0,
+        unread: 0,
+    };
+    let mut turns: usize = 50000;
+    while turns > 0 {
+        r = turn(r, rec, size, line);
+        turns -= 1;
+    }
+    r
+}
+
+// The first bytes of a recording, read in pieces of at most size bytes, and what was seen.
+fn edge(name: &[u8], rec: &[u8; SPACE], bytes: usize, size: usize) {
+    seen(name, rec, bytes, size);
+}
+
+fn seen(name: &[u8], rec: &[u8], bytes: usize, size: usize) {
+    let end = end_of(0, bytes, rec.len());
+    let mut line = [7u8; LINE];
+    let r = drive(&rec[..end], size, &mut line);
+    say(name);
+    number(b": lines ", r.lines);
+    if r.lines > 0 {
+        number(b", the last after ", wide(r.ended));
+        number(b" bytes with ", byte(r.unread));
+        number(b" bits unread, opening ", byte(line[0]));
+        number(b" ", byte(line[1]));
+        number(b" ", byte(line[2]));
+        number(b" ", byte(line[3]));
+        number(b" and ending ", byte(line[44355]));
+    }
+    say(b"\n");
+}
+
+// The refusal number of an answer, 0 for none.
+fn refusal(a: Answer) -> u8 {
+    match a {
+        Answer::Refused(n) => n,
+        Answer::More { taken, state } => 0,
+        Answer::Line { taken, state } => 0,
+    }
+}
+
+fn taken(a: Answer) -> usize {
+    match a {
+        Answer::Refused(_) => 0,
+        Answer::More { taken, state } => taken,
+        Answer::Line { taken, state } => taken,
+    }
+}
+
+// The refusal of a call with nothing to read, in a format, with a record and a buffer that is lent.
+fn told(name: &[u8], format: u8, s: State, line: &mut [u8]) {
+    let none = [0u8; 1];
+    let a = reader::read(format, s, &none[..0], line);
+    say(name);
+    number(b": refusal ", byte(refusal(a)));
+    say(b"\n");
+}
+
+// With a buffer of 44,356 bytes, and of one less.
+fn asked(name: &[u8], format: u8, s: State) {
+    let mut line = [0u8; LINE];
+    told(name, format, s, &mut line);
+}
+
+fn asked_short(name: &[u8], format: u8, s: State) {
+    let mut line = [0u8; 44355];
+    told(name, format, s, &mut line);
+}
+
+// A record between lines, and one in a line, with the fields that an edge has.
+fn searching(search: u64, search_count: u8, unread: u8, unread_count: u8) -> State {
+    State {
+        in_line: false,
+        position: 0,
+        search: search,
+        search_count: search_count,
+        register: 0,
+        unread: unread,
+        unread_count: unread_count,
+        waiting: 0,
+        waiting_count: 0,
+    }
+}
+
+fn reading(
+    position: usize,
+    register: u16,
+    waiting: u8,
+    waiting_count: u8,
+    unread_count: u8,
+) -> State {
+    State {
+        in_line: true,
+        position: position,
+        search: 0,
+        search_count: 0,
+        register: register,
+        unread: 0,
+        unread_count: unread_count,
+        waiting: waiting,
+        waiting_count: waiting_count,
+    }
+}
+
+// Lines at their edges.
+fn lines_at_edges() {
+    let mut rec = [0u8; SPACE];
+    // 63 bits of the tail, from the second bit on, and the end
+    put_tail(&mut rec, 1);
+    edge(b"63 tail bits and the end", &rec, 8, SPACE);
+    edge(b"64 tail bits and 354847 bits", &rec, 44364, SPACE);
+    noise(&mut rec, 0);
+    put_tail(&mut rec, 0);
+    edge(b"64 tail bits and 354848 bits", &rec, 44364, SPACE);
+    edge(b"one-byte pieces", &rec, 44364, 1);
+    edge(b"44363-byte pieces", &rec, 44364, 44363);
+    // another tail inside the line, at byte 1000 of it
+    put_tail(&mut rec, 8064);
+    edge(b"a tail inside a line", &rec, SPACE, SPACE);
+    // another across the line's end, 32 bits on each side
+    noise(&mut rec, 0);
+    put_tail(&mut rec, 0);
+    put_tail(&mut rec, 354880);
+    edge(b"a tail across a line's end", &rec, SPACE, SPACE);
+    // another right after the line's end
+    noise(&mut rec, 0);
+    put_tail(&mut rec, 0);
+    put_tail(&mut rec, 354912);
+    edge(b"a tail right after a line's end", &rec, SPACE, SPACE);
+    // a tail inside noise of ones and zeros
+    noise(&mut rec, 0x55);
+    put_tail(&mut rec, 803);
+    edge(b"a tail inside noise", &rec, SPACE, SPACE);
+    edge(
+        b"a tail inside noise, pieces of 100 bytes",
+        &rec,
+        SPACE,
+        100,
+    );
+}
+
+// Every bit of a byte as a line's start.
+fn offsets() {
+    let mut o: usize = 0;
+    while o < 8 {
+        let mut rec = [0u8; SPACE];
+        put_tail(&mut rec, o);
+        number(b"offset ", wide(o));
+        edge(b"", &rec, 44365, SPACE);
+        o += 1;
+    }
+}
+
+// An empty piece.
+fn nothing() {
+    let none = [0u8; 1];
+    let mut line = [0u8; LINE];
+    let a = reader::read(1, reader::fresh(), &none[..0], &mut line);
+    number(b"empty piece: taken ", wide(taken(a)));
+    say(b"\n");
+}
+
+// Refusals, both sides of each.
+fn refusals() {
+    let s = reader::fresh();
+    asked(b"format 0", 0, s);
+    asked(b"format 1", 1, s);
+    asked(b"format 2", 2, s);
+    asked(b"format 3", 3, s);
+    asked_short(b"buffer 44355", 1, s);
+    asked(b"buffer 44356", 1, s);
+    asked(b"position 354847", 1, reading(354847, 32767, 0, 7, 0));
+    asked(b"position 354848", 1, reading(354848, 32767, 0, 0, 0));
+    asked(b"63 remembered bits", 1, searching(0, 63, 0, 0));
+    asked(b"64 remembered bits", 1, searching(0, 64, 0, 0));
+    asked(b"register 32767", 1, reading(0, 32767, 0, 0, 0));
+    asked(b"register 32768", 1, reading(0, 32768, 0, 0, 0));
+    asked(b"7 unread bits", 1, searching(0, 0, 127, 7));
+    asked(b"8 unread bits", 1, searching(0, 0, 255, 8));
+    asked(b"search bit 1 of 1", 1, searching(1, 1, 0, 0));
+    asked(b"search bits 2 of 1", 1, searching(2, 1, 0, 0));
+    asked(
+        b"remembered and unread bits together",
+        1,
+        searching(5, 3, 2, 2),
+    );
+    asked(b"3 bits wait at position 11", 1, reading(11, 0, 7, 3, 0));
+    asked(b"2 bits wait at position 11", 1, reading(11, 0, 3, 2, 0));
+    asked(b"waiting bits 8 of 3", 1, reading(11, 0, 8, 3, 0));
+    asked(b"an unread bit inside a line", 1, reading(0, 0, 0, 0, 1));
+    asked_short(
+        b"impossible record and short buffer",
+        1,
+        reading(0, 32768, 0, 0, 0),
+    );
+    asked(
+        b"unknown format and impossible record",
+        3,
+        reading(0, 32768, 0, 0, 0),
+    );
+}
+
+fn main() {
+    lines_at_edges();
+    offsets();
+    nothing();
+    refusals();
+}

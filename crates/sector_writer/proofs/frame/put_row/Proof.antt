@@ -1,0 +1,33 @@
+-- `sector_writer::frame::put_row` meets its contract. Assumes nothing.
+use mathlib.Core.Path.{sym, ap, _∙_}
+use mathlib.Core.List.{_++_}
+use Prim.Native.Nat.{ℕ, _+_}
+use denote.Ref.{now}
+use lib.ListN.{take, drop}
+use borrow.Author.Needs.{needs}
+use Rattle.bits.specs.Bits.{bitsOf, packedOf}
+use Rattle.sectors.specs.Layout.{dataAt}
+use Rattle.sector_writer.specs.Written.{pixelsWritten}
+use Rattle.sector_writer.proofs.frame.put_row.Statement.{statement}
+use Rattle.sector_writer.proofs.frame.put_row.Tie as tie
+
+add-pack-bytes : tie.Need-add-pack-bytes
+add-pack-bytes c = search needs
+
+pack-bytes-requires : tie.Need-pack-bytes-requires
+pack-bytes-requires c κs = search needs
+
+same-length : tie.Need-same-length
+same-length c = search needs
+
+returns : tie.Need-returns
+unfolding pixelsWritten
+returns c =
+    let a = c .before .before .before .before .before .before .before .args in
+    let l = a .l in
+    let b = bitsOf (now (a .line)) in
+    c .before .before .pack-bytes .ensures
+    ∙ ap (λ (n : ℕ). take (dataAt l) b ++ packedOf (l .width) (take (l .count) (now (a .pixels))) ++ drop (dataAt l + n) b) (sym (c .before .before .before .before .before .before .before .pre .0 .pixels))
+
+pub put-row-spec : {M : Type 1} → statement M
+put-row-spec = tie.close (tie.spec add-pack-bytes pack-bytes-requires same-length returns)

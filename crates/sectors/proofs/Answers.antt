@@ -1,0 +1,33 @@
+-- The answer of a sector's check, case by case. Assumes nothing.
+use mathlib.Core.Path.{_≡_, refl}
+use mathlib.Core.List.{List}
+use Prim.Native.Nat.{ℕ}
+use borrow.Author.Tests.{eq-eqb, ne-eqb}
+use Rattle.bits.specs.Bits.{bitsOf, part, numberOf}
+use Rattle.crc.specs.Remainder.{remainderOf}
+use Rattle.sectors.specs.declared.layout.Layout.{Layout}
+use Rattle.sectors.specs.Layout.{coveredBits}
+use Rattle.sectors.specs.Asked.{first, when}
+use Rattle.sectors.specs.Sector.{stretch, coveredOf, idOf, answerOf}
+
+module _ (start : ℕ) (l : Layout) (b : List ℕ) where
+  pub answer-five : (remainderOf start (coveredOf l b) ≡ 0 → ⊥) → 5 ≡ answerOf start l b
+  unfolding answerOf first when
+  answer-five ne = rw (ne-eqb (remainderOf start (coveredOf l b)) 0 ne)
+
+  pub answer-six : remainderOf start (coveredOf l b) ≡ 0 → (idOf l b ≡ l .id → ⊥) → 6 ≡ answerOf start l b
+  unfolding answerOf first when
+  answer-six e ne = rw (eq-eqb (remainderOf start (coveredOf l b)) 0 e, ne-eqb (idOf l b) (l .id) ne)
+
+  pub answer-none : remainderOf start (coveredOf l b) ≡ 0 → idOf l b ≡ l .id → 0 ≡ answerOf start l b
+  unfolding answerOf first when
+  answer-none e own = rw (eq-eqb (remainderOf start (coveredOf l b)) 0 e, eq-eqb (idOf l b) (l .id) own)
+
+-- as the code reads them
+pub covered-part : (l : Layout) (s : List ℕ) → part s (l .start) (coveredBits l) ≡ coveredOf l (bitsOf s)
+unfolding part coveredOf stretch
+covered-part l s = refl
+
+pub id-part : (l : Layout) (s : List ℕ) → numberOf (part s (l .start) (l .«id_bits»)) ≡ idOf l (bitsOf s)
+unfolding part idOf stretch
+id-part l s = refl

@@ -1,0 +1,10 @@
+pub mod First
+pub mod Table
+pub mod Rows
+pub mod Bounds
+pub mod Stretch
+pub mod Answers
+pub mod Counts
+pub mod Unpacked
+pub mod Joined
+pub mod Parts

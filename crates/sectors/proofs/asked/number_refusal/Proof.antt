@@ -1,0 +1,20 @@
+-- `sectors::asked::number_refusal` meets its contract. Assumes nothing.
+use borrow.Author.Tests.{lt-ltb, le-ltb}
+use Rattle.sectors.specs.Asked.{first, when, numberRefusal}
+use Rattle.sectors.proofs.asked.number_refusal.Statement.{statement}
+use Rattle.sectors.proofs.asked.number_refusal.Tie as tie
+
+returns : tie.Need-returns
+unfolding first when numberRefusal
+returns c = simp (lt-ltb _ _ (c .if1 .taken))
+
+returns-2 : tie.Need-returns-2
+unfolding first when numberRefusal
+returns-2 c = simp (le-ltb _ _ (c .before .if1 .left), lt-ltb _ _ (c .if2 .taken))
+
+returns-3 : tie.Need-returns-3
+unfolding first when numberRefusal
+returns-3 c = simp (le-ltb _ _ (c .before .if1 .left), le-ltb _ _ (c .if2 .left))
+
+pub number-refusal-spec : {M : Type 1} → statement M
+number-refusal-spec = tie.close (tie.spec returns returns-2 returns-3)

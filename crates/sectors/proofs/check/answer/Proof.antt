@@ -1,0 +1,57 @@
+-- `sectors::check::answer` meets its contract: each test decides one case of the answer. Assumes nothing.
+use mathlib.Core.Path.{sym, ap, _∙_}
+use denote.Ref.{now}
+use Rattle.crc.specs.Remainder.{remainderOf}
+use borrow.Author.Needs.{needs}
+use Rattle.bits.specs.Bits.{bitsOf}
+use Rattle.sectors.proofs.Answers.{answer-five, answer-six, answer-none, covered-part, id-part}
+use Rattle.sectors.proofs.check.answer.Statement.{statement}
+use Rattle.sectors.proofs.check.answer.Tie as tie
+
+add-remainder : tie.Need-add-remainder
+add-remainder c = search needs
+
+add-remainder-2 : tie.Need-add-remainder-2
+add-remainder-2 c = search needs
+
+remainder-requires : tie.Need-remainder-requires
+remainder-requires c κs = search needs
+
+returns : tie.Need-returns
+returns c =
+    let a = c .before .before .before .before .args in
+    let read = ap (remainderOf (a .start)) (covered-part (a .l) (now (a .line))) in
+    answer-five (a .start) (a .l) (bitsOf (now (a .line))) (λ z. c .if1 .taken (c .before .remainder .ensures ∙ read ∙ z))
+
+field-requires : tie.Need-field-requires
+field-requires c κs = search needs
+
+returns-2 : tie.Need-returns-2
+returns-2 c =
+    let first = c .before .before .before in
+    let a = first .before .before .before .before .args in
+    let read = ap (remainderOf (a .start)) (covered-part (a .l) (now (a .line))) in
+    answer-six (a .start) (a .l) (bitsOf (now (a .line)))
+    (sym (first .before .remainder .ensures ∙ read) ∙ first .if1 .left)
+    (λ z. c .if2 .taken (c .before .before .field .ensures .0 ∙ id-part (a .l) (now (a .line)) ∙ z))
+
+returns-3 : tie.Need-returns-3
+returns-3 c =
+    let first = c .before .before .before in
+    let a = first .before .before .before .before .args in
+    let read = ap (remainderOf (a .start)) (covered-part (a .l) (now (a .line))) in
+    answer-none (a .start) (a .l) (bitsOf (now (a .line)))
+    (sym (first .before .remainder .ensures ∙ read) ∙ first .if1 .left)
+    (sym (c .before .before .field .ensures .0 ∙ id-part (a .l) (now (a .line))) ∙ c .if2 .left)
+
+pub answer-spec : {M : Type 1} → statement M
+answer-spec =
+    tie.close
+    (tie.spec
+    add-remainder
+    add-remainder-2
+    remainder-requires
+    returns
+    field-requires
+    returns-2
+    returns-3)

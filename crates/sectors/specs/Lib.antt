@@ -1,0 +1,5 @@
+pub mod Layout
+pub mod Asked
+pub mod Sector
+pub mod Calls
+pub mod Strip
