@@ -4,6 +4,7 @@ use mathlib.Core.Path.{_≡_, refl, sym, ap, _∙_}
 use Prim.Native.Nat.{ℕ}
 use lib.ListN.{take, replicate}
 use Rattle.bits.specs.Bits.{digits, packedOf, bitsOf, through, longer, inBase, numberOf, fieldsOf}
+use Rattle.blocks.proofs.Tables.{p12}
 use Rattle.numbers.proofs.Paper.{p8, p9, p10, p11, p11-refused}
 use Rattle.scramble.specs.Register.{newBit, nextRegister, scramblingBits}
 use Rattle.scramble.specs.Sync.{fifteenOnes}
@@ -52,4 +53,5 @@ edges =
       P10 = p10;
       P11 = p11;
       P11-refused = p11-refused;
+      P12 = p12;
     }

@@ -5,6 +5,7 @@ use mathlib.Core.Path.{_≡_}
 use Prim.Native.Nat.{ℕ, _+_}
 use lib.ListN.{take, replicate}
 use Rattle.bits.specs.Bits.{bitsOf, fieldsOf}
+use Rattle.blocks.specs.Entries.{temperatures, levelPlace}
 use Rattle.crc.specs.Remainder.{checkWordOf}
 use Rattle.numbers.specs.Integers.{integerOf}
 use Rattle.numbers.specs.Decimals.{bcdOf}
@@ -50,3 +51,5 @@ pub record Edges : Type 0 where
   -- 97 65 as BCD is 9765; 9A 65 is refusal 7
   pub P11 : bcdOf 2 (0x97 ∷ 0x65 ∷ []) ≡ bcd.Is 9765
   pub P11-refused : bcdOf 2 (0x9a ∷ 0x65 ∷ []) ≡ bcd.Refused 7
+  -- IR1 level 1,023 is at bytes 5373-5376
+  pub P12 : (levelPlace temperatures 1 1023 ≡ 5373) × (levelPlace temperatures 1 1023 + 3 ≡ 5376)

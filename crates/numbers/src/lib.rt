@@ -55,15 +55,15 @@ pub enum Put {
     Refused(u8),
 }
 
-// Whether n lies outside low to high.
-fn outside(low: usize, high: usize, n: usize) -> bool
+// Inner. Whether n lies outside low to high.
+pub fn outside(low: usize, high: usize, n: usize) -> bool
     ensures { λ r. ⌜ r ≡ outside low high n ⌝ }
 {
     n < low || high < n
 }
 
-// Whether R*n.m is no form of the paper: n is neither 4 nor 6, or m is over 15.
-fn no_real(n: usize, m: u8) -> bool
+// Inner. Whether R*n.m is no form of the paper: n is neither 4 nor 6, or m is over 15.
+pub fn no_real(n: usize, m: u8) -> bool
     ensures { λ r. ⌜ r ≡ noReal n m ⌝ }
 {
     (n != 4 && n != 6) || 15 < m

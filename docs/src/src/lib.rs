@@ -33,6 +33,7 @@ pub mod blocks;
 pub mod document;
 
 pub mod damage;
+pub mod fields;
 pub mod listing;
 pub mod pattern;
 pub mod vectors;

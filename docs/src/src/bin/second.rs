@@ -3,6 +3,8 @@
 //! - `second signal N FORMAT` writes a recording of N lines of the test
 //!   pattern; `second::pattern` says exactly what it is.
 //! - `second listing [FORMAT] < recording` lists the lines of a recording.
+//! - `second fields [FORMAT] < recording` writes the documentation fields of
+//!   every line, then what the assembled blocks say; see `second::fields`.
 //! - `second vectors` prints worked values of the paper's edges.
 //! - `second zeros` writes one line of zeros with right IDs, check words and
 //!   filler, in format 1.
@@ -11,11 +13,13 @@ use std::error::Error;
 use std::io::{self, Read, Write};
 use std::process::ExitCode;
 
+use second::fields::Fields;
 use second::listing::Listing;
 use second::{pattern, refusal, vectors};
 
 const USAGE: &str = "usage: second signal N FORMAT
        second listing [FORMAT] < recording
+       second fields [FORMAT] < recording
        second vectors
        second zeros";
 
@@ -54,6 +58,27 @@ fn listing(format: usize) -> Outcome {
     Ok(())
 }
 
+fn fields(format: usize) -> Outcome {
+    second::format::format(format).map_err(refused)?;
+    let mut fields = Fields::new(format);
+    let mut recording = io::stdin().lock();
+    let mut out = io::stdout().lock();
+    let mut piece = vec![0; 65_536];
+    loop {
+        let length = recording.read(&mut piece)?;
+        if length == 0 {
+            break;
+        }
+        for row in fields.feed(&piece[..length]).map_err(refused)? {
+            writeln!(out, "{row}")?;
+        }
+    }
+    for row in fields.end() {
+        writeln!(out, "{row}")?;
+    }
+    Ok(())
+}
+
 fn print_vectors() -> Outcome {
     let mut out = io::stdout().lock();
     for row in vectors::rows() {
@@ -73,6 +98,8 @@ fn run(words: &[&str]) -> Outcome {
         ["signal", lines, format] => signal(lines.parse()?, format.parse()?),
         ["listing"] => listing(1),
         ["listing", format] => listing(format.parse()?),
+        ["fields"] => fields(1),
+        ["fields", format] => fields(format.parse()?),
         ["vectors"] => print_vectors(),
         ["zeros"] => zeros(),
         _ => Err(USAGE.into()),

@@ -1,0 +1,71 @@
+-- The table of the blocks, row by row. Assumes nothing.
+use mathlib.Core.Path.{_≡_, refl}
+use mathlib.Core.List.{List, [], _∷_}
+use Prim.Native.Nat.{ℕ, zero, suc, _+_, _*_, _-_, _≤_}
+use native.Mathlib.Omega.{arith}
+use lib.Dec.{lit≤}
+use Rattle.formats.specs.Formats.{lineBytes}
+use Rattle.bits.proofs.Writes.{room}
+use Rattle.sectors.proofs.Rows.{Each, among}
+use Rattle.blocks.specs.declared.block.Block.{Block}
+use Rattle.blocks.specs.Blocks.{none, blocks, blockOf, segmentBytes, Sound}
+
+-- a number that is none of 1 to 5 has no row
+pub no-block : (n : ℕ) → (n ≡ 1 → ⊥) → (n ≡ 2 → ⊥) → (n ≡ 3 → ⊥) → (n ≡ 4 → ⊥) → (n ≡ 5 → ⊥) → none ≡ blockOf n
+unfolding blockOf blocks
+no-block zero a b c d e = refl
+no-block (suc zero) a b c d e = absurd (a refl)
+no-block (suc (suc zero)) a b c d e = absurd (b refl)
+no-block (suc (suc (suc zero))) a b c d e = absurd (c refl)
+no-block (suc (suc (suc (suc zero)))) a b c d e = absurd (d refl)
+no-block (suc (suc (suc (suc (suc zero))))) a b c d e = absurd (e refl)
+no-block (suc (suc (suc (suc (suc (suc n)))))) a b c d e = refl
+
+-- 25 segments fill a block, whatever its number
+pub fills : (n : ℕ) → 25 * segmentBytes (blockOf n) ≡ blockOf n .size
+unfolding blockOf blocks
+fills zero = refl
+fills (suc zero) = refl
+fills (suc (suc zero)) = refl
+fills (suc (suc (suc zero))) = refl
+fills (suc (suc (suc (suc zero)))) = refl
+fills (suc (suc (suc (suc (suc zero))))) = refl
+fills (suc (suc (suc (suc (suc (suc n)))))) = refl
+
+-- WHAT HOLDS OF EVERY BLOCK
+pub sound : (n : ℕ) → 1 ≤ n → n ≤ 5 → Sound (blockOf n)
+unfolding Each blockOf blocks
+sound n lo hi =
+    among (λ n. Sound (blockOf n)) 1 5 n (
+      record { fills = refl; starts = lit≤ tt; ends = lit≤ tt },
+      (
+        record { fills = refl; starts = lit≤ tt; ends = lit≤ tt },
+        (
+          record { fills = refl; starts = lit≤ tt; ends = lit≤ tt },
+          (
+            record { fills = refl; starts = lit≤ tt; ends = lit≤ tt },
+            (
+              record { fills = refl; starts = lit≤ tt; ends = lit≤ tt },
+              tt,
+            ),
+          ),
+        ),
+      ),
+    )
+    lo (omega arith)
+
+-- one after the other in the sector, without gap or overlap, from byte 197 to byte 2114
+pub Chain : ℕ → List Block → Type 0
+Chain at [] = at ≡ 2115
+Chain at (b ∷ bs) = (b .first ≡ at) × Chain (at + segmentBytes b) bs
+
+pub no-gap : Chain 197 blocks
+unfolding Chain blocks
+no-gap = (refl, (refl, (refl, (refl, (refl, refl)))))
+
+-- segment s of a block lies in its buffer, and in the line
+pub in-block : (b : Block) (s len : ℕ) → Sound b → s ≤ 24 → b .size ≤ len → s * segmentBytes b + segmentBytes b ≤ len
+in-block b s len h small fits = omega (arith, room s 25 (segmentBytes b) (omega arith), h .fills)
+
+pub in-line : (b : Block) (len : ℕ) → Sound b → lineBytes ≤ len → b .first - 1 + segmentBytes b ≤ len
+in-line b len h long = omega (arith, h .starts, h .ends)

@@ -1,0 +1,10 @@
+-- `blocks::calibration::temperature_table` meets its contract: first byte, levels and places are the paper's. Assumes nothing.
+use mathlib.Core.Path.{refl}
+use Rattle.blocks.proofs.calibration.temperature_table.Statement.{statement}
+use Rattle.blocks.proofs.calibration.temperature_table.Tie as tie
+
+returns : tie.Need-returns
+returns c = refl
+
+pub temperature-table-spec : {M : Type 1} → statement M
+temperature-table-spec = tie.close (tie.spec returns)

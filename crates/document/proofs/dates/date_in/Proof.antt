@@ -1,0 +1,43 @@
+-- `document::dates::date_in` meets its contract. Assumes nothing.
+use borrow.Author.Needs.{needs}
+use Rattle.document.specs.Dates.{dateIn}
+use Rattle.document.proofs.dates.date_in.Statement.{statement}
+use Rattle.document.proofs.dates.date_in.Tie as tie
+
+four-digits-requires : tie.Need-four-digits-requires
+four-digits-requires c κs = search needs
+
+two-digits-requires : tie.Need-two-digits-requires
+two-digits-requires c κs = search needs
+
+two-digits-requires-2 : tie.Need-two-digits-requires-2
+two-digits-requires-2 c κs = search needs
+
+two-digits-requires-3 : tie.Need-two-digits-requires-3
+two-digits-requires-3 c κs = search needs
+
+two-digits-requires-4 : tie.Need-two-digits-requires-4
+two-digits-requires-4 c κs = search needs
+
+two-digits-requires-5 : tie.Need-two-digits-requires-5
+two-digits-requires-5 c κs = search needs
+
+two-digits-requires-6 : tie.Need-two-digits-requires-6
+two-digits-requires-6 c κs = search needs
+
+returns : tie.Need-returns
+unfolding dateIn
+returns c = cc
+
+pub date-in-spec : {M : Type 1} → statement M
+date-in-spec =
+    tie.close
+    (tie.spec
+    four-digits-requires
+    two-digits-requires
+    two-digits-requires-2
+    two-digits-requires-3
+    two-digits-requires-4
+    two-digits-requires-5
+    two-digits-requires-6
+    returns)
