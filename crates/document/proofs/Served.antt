@@ -21,7 +21,7 @@ module _ (formless : Bool) (f : ℕ) (line : List ℕ) (p n : ℕ) where
   unfolding fieldRefusal first when
   no-form known e = rw (known, e)
 
-  pub outside-sector : formatRefusal f ≡ 0 → formless ≡ false → noPlace p n ≡ true → 10 ≡ fieldRefusal formless f line p n
+  pub outside-sector : formatRefusal f ≡ 0 → formless ≡ false → noPlace p n ≡ true → 2 ≡ fieldRefusal formless f line p n
   unfolding fieldRefusal first when
   outside-sector known e out = rw (known, e, out)
 
@@ -38,13 +38,15 @@ module _ (formless : Bool) (f : ℕ) (line : List ℕ) (p n : ℕ) where
   pub served : fieldRefusal formless f line p n ≡ 0 → Served
   unfolding fieldRefusal noPlace
   served e =
-      let rest = none-second (formatRefusal f) (first (when (formless || noPlace p n) 10) (docRefusal f line)) e in
-      let test = none-when (formless || noPlace p n) 10 (λ z. omega arith) (none-first (when (formless || noPlace p n) 10) (docRefusal f line) rest) in
-      let form = or-false formless (noPlace p n) test in
-      let place = or-false (ltb p 1) (ltb (docBytes + 1) (p + n)) (form .1) in
+      let placed : ℕ = first (when (noPlace p n) 2) (docRefusal f line) in
+      let rest = none-second (formatRefusal f) (first (when formless 10) placed) e in
+      let form = none-when formless 10 (λ z. omega arith) (none-first (when formless 10) placed rest) in
+      let more = none-second (when formless 10) placed rest in
+      let test = none-when (noPlace p n) 2 (λ z. omega arith) (none-first (when (noPlace p n) 2) (docRefusal f line) more) in
+      let place = or-false (ltb p 1) (ltb (docBytes + 1) (p + n)) test in
       record {
-        formed = form .0;
+        formed = form;
         low = ltb-false p 1 (place .0);
         high = ltb-false (docBytes + 1) (p + n) (place .1);
-        long = doc-long f line (none-second (when (formless || noPlace p n) 10) (docRefusal f line) rest);
+        long = doc-long f line (none-second (when (noPlace p n) 2) (docRefusal f line) more);
       }

@@ -1,5 +1,5 @@
 -- A number field of the documentation sector by its place and form. One rule of refusal serves every form: a field whose form
--- is none of the paper, or that does not lie in ID and data, is refused with 10. Assumes nothing.
+-- is none of the paper is refused with 10, and one whose bytes do not all lie in ID and data with 2. Assumes nothing.
 use Prim.Native.Nat.{ℕ, _+_}
 use mathlib.Core.Bool.{Bool, _||_}
 use mathlib.Core.List.{List}
@@ -26,7 +26,8 @@ noPlace p n = ltb p 1 || ltb (docBytes + 1) (p + n)
 
 -- 1, 10, 2, 5, 6
 unfoldable pub fieldRefusal : Bool → ℕ → List ℕ → ℕ → ℕ → ℕ
-fieldRefusal formless f line p n = first (formatRefusal f) (first (when (formless || noPlace p n) 10) (docRefusal f line))
+fieldRefusal formless f line p n =
+    first (formatRefusal f) (first (when formless 10) (first (when (noPlace p n) 2) (docRefusal f line)))
 
 -- a field of any kind: refused, or what its bytes say
 unfoldable pub integerField : ℕ → List ℕ → ℕ → ℕ → Integer

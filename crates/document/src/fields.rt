@@ -32,7 +32,8 @@ fn no_place(place: usize, n: usize) -> bool
     false
 }
 
-// What refuses a field of n bytes at a place: 1, then 10 where its form is none or it lies outside, then 2, 5, 6; else 0.
+// What refuses a field of n bytes at a place: 1, then 10 where its form is none, 2 where its bytes are not all there, 5, 6;
+// else 0.
 fn field_refusal(formless: bool, format: u8, line: &[u8], place: usize, n: usize) -> u8
     ensures { λ r. ⌜ r ≡ fieldRefusal formless format (now (line .entry)) place n ⌝ }
 {
@@ -44,12 +45,12 @@ fn field_refusal(formless: bool, format: u8, line: &[u8], place: usize, n: usize
         return refusal::RANGE;
     }
     if no_place(place, n) {
-        return refusal::RANGE;
+        return refusal::SHORT_INPUT;
     }
     doc_refusal(format, line)
 }
 
-// I*n at a place; refused with 1, 10 for n outside 1 to 4 or a field outside the bytes 1 to 2,293, 2, 5, 6.
+// I*n at a place; refused with 1, 10 for n outside 1 to 4, 2 for a short line or a field outside the bytes 1 to 2,293, 5, 6.
 pub fn integer_field(format: u8, line: &[u8], place: usize, n: usize) -> Integer
     ensures { λ r. ⌜ r ≡ integerField format (now (line .entry)) place n ⌝ }
 {
@@ -61,8 +62,7 @@ pub fn integer_field(format: u8, line: &[u8], place: usize, n: usize) -> Integer
     read_integer(&line[at..], n)
 }
 
-// BCD*n at a place; refused with 1, 10 for n outside 1 to 6 or a field outside the bytes 1 to 2,293, 2, 5, 6, and 7 for a
-// digit over 9 in the field.
+// BCD*n at a place; refused likewise, with 10 for n outside 1 to 6, and last with 7 for a digit over 9.
 pub fn bcd_field(format: u8, line: &[u8], place: usize, n: usize) -> Bcd
     ensures { λ r. ⌜ r ≡ bcdField format (now (line .entry)) place n ⌝ }
 {
@@ -74,8 +74,7 @@ pub fn bcd_field(format: u8, line: &[u8], place: usize, n: usize) -> Bcd
     read_bcd(&line[at..], n)
 }
 
-// R*n.m at a place as sign, magnitude and places; refused with 1, 10 for n neither 4 nor 6, m over 15 or a field outside the
-// bytes 1 to 2,293, 2, 5, 6.
+// R*n.m at a place as sign, magnitude and places; refused likewise, with 10 for n neither 4 nor 6 or m over 15.
 pub fn real_field(format: u8, line: &[u8], place: usize, n: usize, m: u8) -> Real
     ensures { λ r. ⌜ r ≡ realField format (now (line .entry)) place n m ⌝ }
 {
