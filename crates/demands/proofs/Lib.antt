@@ -4,4 +4,5 @@ pub mod Run
 pub mod RoundTrip
 pub mod InLine
 pub mod OneLine
+pub mod Opened
 pub mod Demands

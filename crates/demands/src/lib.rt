@@ -1,5 +1,9 @@
-// The claims, in one place: there is no code here. `specs/` states each over the definitions of the other crates,
-// `proofs/` proves it by citing them.
+// The claims that join the crates, in one place: there is no code here. `specs/` states them over the definitions of the
+// other crates, `proofs/` proves them by citing those crates.
 //
-//   Edges   P1, P2, .. of document 01, as a single list under one claim
-//   Unique  a contract that is an equation leaves room for one result
+//   Edges      P1 to P12 of document 01, as a single list under one claim; Opened has P2 on the real call
+//   RoundTrip  demand 2: the lines found in a written recording are the lines that were written
+//   Run        the same over any test of a window, any line length and any rules: what a run of lines is found by
+//   Demands    demand 2 with demand 3: lines to the writer, any cut, to the reader, and the sectors of each
+//   OneLine    a line is a line: each joined pixel has its upper and its lower part from the one line in the buffer
+//   Unique     a contract that is an equation leaves room for one result

@@ -14,6 +14,9 @@ fn main() {
     let mut room = [0u8; 47950];
     let mut marks = desk::empty();
     let mut p = player::opened();
+    if !p.more {
+        return;
+    }
     let mut lines: u64 = 0;
     let mut turns = u64::MAX;
     while turns > 0 && p.more {

@@ -57,6 +57,9 @@ fn main() {
     let mut line = [0u8; 44356];
     let mut piece = [0u8; player::PIECE];
     let mut p = player::opened();
+    if !p.more {
+        return;
+    }
     let mut lines: u64 = 0;
     let mut turns = u64::MAX;
     while turns > 0 && p.more {

@@ -19,6 +19,9 @@ empty-requires c κs = search needs
 opened-requires : tie.Need-opened-requires Inv-loop μ-loop
 opened-requires c κs = search needs
 
+returns : tie.Need-returns Inv-loop μ-loop
+returns c = search needs
+
 loop-holds : tie.Need-loop-holds Inv-loop μ-loop
 loop-holds c = search needs
 
@@ -79,8 +82,8 @@ slice-aggregate-text c = search needs
 text-requires : tie.Need-text-requires Inv-loop μ-loop
 text-requires c κs = search needs
 
-returns : tie.Need-returns Inv-loop μ-loop
-returns c = search needs
+returns-2 : tie.Need-returns-2 Inv-loop μ-loop
+returns-2 c = search needs
 
 pub main-spec : {M : Type 1} → statement M
 main-spec =
@@ -90,6 +93,7 @@ main-spec =
     μ-loop
     empty-requires
     opened-requires
+    returns
     loop-holds
     sub-turns
     slice-aggregate-next
@@ -110,4 +114,4 @@ main-spec =
     number-requires
     slice-aggregate-text
     text-requires
-    returns)
+    returns-2)

@@ -16,6 +16,9 @@ abbrev μ-loop : tie.MeasureT-loop
 opened-requires : tie.Need-opened-requires Inv-loop μ-loop
 opened-requires c κs = search needs
 
+returns : tie.Need-returns Inv-loop μ-loop
+returns c = search needs
+
 loop-holds : tie.Need-loop-holds Inv-loop μ-loop
 loop-holds c = search needs
 
@@ -64,8 +67,8 @@ slice-aggregate-write-all-2 c = search needs
 write-all-requires-2 : tie.Need-write-all-requires-2 Inv-loop μ-loop
 write-all-requires-2 c κs = search needs
 
-returns : tie.Need-returns Inv-loop μ-loop
-returns c = search needs
+returns-2 : tie.Need-returns-2 Inv-loop μ-loop
+returns-2 c = search needs
 
 pub main-spec : {M : Type 1} → statement M
 main-spec =
@@ -74,6 +77,7 @@ main-spec =
     Inv-loop
     μ-loop
     opened-requires
+    returns
     loop-holds
     sub-turns
     slice-aggregate-next
@@ -90,4 +94,4 @@ main-spec =
     print-decimal-requires
     slice-aggregate-write-all-2
     write-all-requires-2
-    returns)
+    returns-2)
