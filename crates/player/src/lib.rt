@@ -106,7 +106,7 @@ fn on(p: Player, state: State, taken: usize, whole: bool) -> Player
     moved(p, state, to, to, whole, false)
 }
 
-// On to the next line that is complete, or to the recording's end.
+// Inner, for the programs. On to the next line that is complete, or to the recording's end; p is as `opened` or `next` left it.
 pub fn next(p: Player, piece: &mut [u8; PIECE], line: &mut [u8]) -> Player
     requires { ⌜ Places p ⌝ }
     ensures { λ r. ⌜ Places r ⌝ }

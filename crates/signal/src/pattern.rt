@@ -202,7 +202,7 @@ fn put_sector(format: u8, k: usize, s: u8, line: &mut [u8])
     }
 }
 
-// Line k, all twelve sectors. Pixels go by k modulo 1,024, since none is wider than ten bits.
+// Inner. Line k, all twelve sectors. Pixels go by k modulo 1,024, since none is wider than ten bits.
 pub fn fill(format: u8, k: u64, line: &mut [u8])
     requires { ⌜ k < 1000000 ⌝ }
 {
