@@ -9,3 +9,4 @@ pub mod Carried
 pub mod Stored
 pub mod Advance
 pub mod Run
+pub mod Skips

@@ -41,6 +41,12 @@ unfoldable pub Taken : ℕ → ℕ → Assembly → List (List ℕ) → Type 0
 Taken f n a [] = Unit {0}
 Taken f n a (l ∷ ls) = (taken (addedOf f (a .marks) l n (a .block)) ≡ true) × Taken f n (step f n a l) ls
 
+-- the lines of a run that were not refused
+unfoldable pub takenLines : ℕ → ℕ → Assembly → List (List ℕ) → List (List ℕ)
+takenLines f n a [] = []
+takenLines f n a (l ∷ ls) =
+    cond (taken (addedOf f (a .marks) l n (a .block))) (l ∷ takenLines f n (step f n a l) ls) (takenLines f n (step f n a l) ls)
+
 -- the segment that a line names, and the first line of a run that names it
 abbrev pub segmentIn : List ℕ → ℕ
 segmentIn line = docByte line 194
