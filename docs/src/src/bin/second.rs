@@ -39,52 +39,40 @@ fn signal(lines: u64, format: usize) -> Outcome {
     Ok(out.flush()?)
 }
 
-fn listing(format: usize) -> Outcome {
-    second::format::format(format).map_err(refused)?;
-    let mut listing = Listing::new(format);
-    let mut recording = io::stdin().lock();
+/// Writes rows, one a line.
+fn print(rows: impl IntoIterator<Item = String>) -> Outcome {
     let mut out = io::stdout().lock();
+    for row in rows {
+        writeln!(out, "{row}")?;
+    }
+    Ok(())
+}
+
+/// Hands the recording over in pieces, and writes the rows that each gives.
+fn follow(mut feed: impl FnMut(&[u8]) -> Result<Vec<String>, refusal::Refusal>) -> Outcome {
+    let mut recording = io::stdin().lock();
     let mut piece = vec![0; 65_536];
     loop {
         let length = recording.read(&mut piece)?;
         if length == 0 {
-            break;
+            return Ok(());
         }
-        for row in listing.feed(&piece[..length]).map_err(refused)? {
-            writeln!(out, "{row}")?;
-        }
+        print(feed(&piece[..length]).map_err(refused)?)?;
     }
-    writeln!(out, "{}", listing.total())?;
-    Ok(())
+}
+
+fn listing(format: usize) -> Outcome {
+    second::format::format(format).map_err(refused)?;
+    let mut listing = Listing::new(format);
+    follow(|piece| listing.feed(piece))?;
+    print([listing.total()])
 }
 
 fn fields(format: usize) -> Outcome {
     second::format::format(format).map_err(refused)?;
     let mut fields = Fields::new(format);
-    let mut recording = io::stdin().lock();
-    let mut out = io::stdout().lock();
-    let mut piece = vec![0; 65_536];
-    loop {
-        let length = recording.read(&mut piece)?;
-        if length == 0 {
-            break;
-        }
-        for row in fields.feed(&piece[..length]).map_err(refused)? {
-            writeln!(out, "{row}")?;
-        }
-    }
-    for row in fields.end() {
-        writeln!(out, "{row}")?;
-    }
-    Ok(())
-}
-
-fn print_vectors() -> Outcome {
-    let mut out = io::stdout().lock();
-    for row in vectors::rows() {
-        writeln!(out, "{row}")?;
-    }
-    Ok(())
+    follow(|piece| fields.feed(piece))?;
+    print(fields.end())
 }
 
 fn zeros() -> Outcome {
@@ -100,7 +88,7 @@ fn run(words: &[&str]) -> Outcome {
         ["listing", format] => listing(format.parse()?),
         ["fields"] => fields(1),
         ["fields", format] => fields(format.parse()?),
-        ["vectors"] => print_vectors(),
+        ["vectors"] => print(vectors::rows()),
         ["zeros"] => zeros(),
         _ => Err(USAGE.into()),
     }
