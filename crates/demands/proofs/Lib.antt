@@ -6,3 +6,4 @@ pub mod InLine
 pub mod OneLine
 pub mod Opened
 pub mod Demands
+pub mod Refusals

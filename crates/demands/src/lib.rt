@@ -2,6 +2,7 @@
 // other crates, `proofs/` proves them by citing those crates.
 //
 //   Edges      P1 to P12 of document 01, as a single list under one claim; Opened has P2 on the real call
+//   Refusals   demand 1: a refused call changes no lent byte, one list of all calls that write into a slice
 //   RoundTrip  demand 2: the lines found in a written recording are the lines that were written
 //   Run        the same over any test of a window, any line length and any rules: what a run of lines is found by
 //   Demands    demand 2 with demand 3: lines to the writer, any cut, to the reader, and the sectors of each
