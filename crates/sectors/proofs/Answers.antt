@@ -6,7 +6,6 @@ use borrow.Author.Tests.{eq-eqb, ne-eqb}
 use Rattle.bits.specs.Bits.{bitsOf, part, numberOf}
 use Rattle.crc.specs.Remainder.{remainderOf}
 use Rattle.sectors.specs.declared.layout.Layout.{Layout}
-use Rattle.sectors.specs.Layout.{coveredBits}
 use Rattle.sectors.specs.Asked.{first, when}
 use Rattle.sectors.specs.Sector.{stretch, coveredOf, idOf, answerOf}
 
@@ -23,11 +22,7 @@ module _ (start : ℕ) (l : Layout) (b : List ℕ) where
   unfolding answerOf first when
   answer-none e own = rw (eq-eqb (remainderOf start (coveredOf l b)) 0 e, eq-eqb (idOf l b) (l .id) own)
 
--- as the code reads them
-pub covered-part : (l : Layout) (s : List ℕ) → part s (l .start) (coveredBits l) ≡ coveredOf l (bitsOf s)
-unfolding part coveredOf stretch
-covered-part l s = refl
-
+-- as the code reads it
 pub id-part : (l : Layout) (s : List ℕ) → numberOf (part s (l .start) (l .«id_bits»)) ≡ idOf l (bitsOf s)
 unfolding part idOf stretch
 id-part l s = refl

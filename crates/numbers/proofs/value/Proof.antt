@@ -1,5 +1,6 @@
 -- `numbers::value` meets its contract: both conversions are exact, since the magnitude is below 2 ^ 47 and the power at
 -- most 10 ^ 15, both below 2 ^ 53. Assumes nothing.
+use mathlib.Core.Path.{refl}
 use Prim.Native.Nat.{_^_, _≤_}
 use native.Mathlib.Nat.{pow-le-pow-right}
 use native.Mathlib.Omega.{arith}
@@ -27,11 +28,11 @@ int-to-float-q-2 c =
 
 returns : tie.Need-returns
 unfolding valueOf
-returns c = simp (c .if1 .taken, c .before .before .before .power .ensures)
+returns c = simp (c .if1 .taken, c .before .before .before .power .ensures) refl
 
 returns-2 : tie.Need-returns-2
 unfolding valueOf
-returns-2 c = simp (c .if1 .left, c .before .before .before .power .ensures)
+returns-2 c = simp (c .if1 .left, c .before .before .before .power .ensures) refl
 
 pub value-spec : {M : Type 1} → statement M
 value-spec = tie.close (tie.spec power-requires int-to-float-q int-to-float-q-2 returns returns-2)

@@ -18,19 +18,19 @@ returns-2 : tie.Need-returns-2
 unfolding blockRefusal when
 returns-2 c =
     let first = c .before .before in
-    passed _ _ _ _ (first .before .served .ensures) (first .if1 .left) (rw (eq-eqb _ _ (c .before .if2 .taken), eq-eqb _ _ (c .if3 .taken)))
+    passed _ _ _ _ (first .before .served .ensures) (first .if1 .left) (rw (eq-eqb _ 5 (c .before .if2 .taken), eq-eqb _ 2 (c .if3 .taken)))
 
 returns-3 : tie.Need-returns-3
 unfolding blockRefusal when
 returns-3 c =
     let first = c .before .before in
-    passed _ _ _ _ (first .before .served .ensures) (first .if1 .left) (rw (eq-eqb _ _ (c .before .if2 .taken), ne-eqb _ _ (c .if3 .left)))
+    passed _ _ _ _ (first .before .served .ensures) (first .if1 .left) (rw (eq-eqb _ 5 (c .before .if2 .taken), ne-eqb _ 2 (c .if3 .left)))
 
 returns-4 : tie.Need-returns-4
 unfolding blockRefusal when
 returns-4 c =
     let first = c .before in
-    passed _ _ _ _ (first .before .served .ensures) (first .if1 .left) (rw (ne-eqb _ _ (c .if2 .left)))
+    passed _ _ _ _ (first .before .served .ensures) (first .if1 .left) (rw (ne-eqb _ 5 (c .if2 .left)))
 
 pub block-refusal-spec : {M : Type 1} → statement M
 block-refusal-spec = tie.close (tie.spec served-requires returns returns-2 returns-3 returns-4)

@@ -1,4 +1,5 @@
 -- `blocks::marks::marks_refusal` meets its contract. Assumes nothing.
+use mathlib.Core.Path.{refl}
 use borrow.Author.Tests.{le-leb, lt-leb}
 use Rattle.sectors.specs.Asked.{when}
 use Rattle.blocks.specs.Marking.{marksRefusal}
@@ -11,7 +12,7 @@ returns c = rw (le-leb _ _ (c .if1 .taken))
 
 returns-2 : tie.Need-returns-2
 unfolding when marksRefusal
-returns-2 c = rw (lt-leb _ _ (c .if1 .left))
+returns-2 c = rw (lt-leb _ _ (c .if1 .left)) refl
 
 pub marks-refusal-spec : {M : Type 1} → statement M
 marks-refusal-spec = tie.close (tie.spec returns returns-2)

@@ -1,4 +1,5 @@
 -- `blocks::marks::unfinished_refusal` meets its contract. Assumes nothing.
+use mathlib.Core.Path.{refl}
 use borrow.Author.Tests.{eq-eqb, ne-eqb}
 use Rattle.sectors.specs.Asked.{when}
 use Rattle.blocks.specs.Marking.{unfinishedRefusal}
@@ -11,7 +12,7 @@ returns c = rw (eq-eqb _ _ (c .if1 .taken))
 
 returns-2 : tie.Need-returns-2
 unfolding when unfinishedRefusal
-returns-2 c = rw (ne-eqb _ _ (c .if1 .left))
+returns-2 c = rw (ne-eqb _ _ (c .if1 .left)) refl
 
 pub unfinished-refusal-spec : {M : Type 1} → statement M
 unfinished-refusal-spec = tie.close (tie.spec returns returns-2)

@@ -1,4 +1,5 @@
 -- `document::dates::date_in` meets its contract. Assumes nothing.
+use mathlib.Core.Path.{refl}
 use borrow.Author.Needs.{needs}
 use Rattle.document.specs.Dates.{dateIn}
 use Rattle.document.proofs.dates.date_in.Statement.{statement}
@@ -27,7 +28,14 @@ two-digits-requires-6 c κs = search needs
 
 returns : tie.Need-returns
 unfolding dateIn
-returns c = cc
+returns c =
+    let second = c .before in
+    let minute = second .before in
+    let hour = minute .before in
+    let day = hour .before in
+    let month = day .before in
+    let year = month .before in
+    simp (year .four-digits .ensures .0, month .two-digits .ensures .0, day .two-digits2 .ensures .0, hour .two-digits3 .ensures .0, minute .two-digits4 .ensures .0, second .two-digits5 .ensures .0, c .two-digits6 .ensures .0) refl
 
 pub date-in-spec : {M : Type 1} → statement M
 date-in-spec =

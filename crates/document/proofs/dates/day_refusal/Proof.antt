@@ -1,4 +1,5 @@
 -- `document::dates::day_refusal` meets its contract. Assumes nothing.
+use mathlib.Core.Path.{refl}
 use borrow.Author.Needs.{needs}
 use Rattle.document.specs.Dates.{dayRefusal}
 use Rattle.document.proofs.dates.day_refusal.Statement.{statement}
@@ -21,7 +22,11 @@ first-requires-2 c κs = search needs
 
 returns : tie.Need-returns
 unfolding dayRefusal
-returns c = cc
+returns c =
+    let day = c .before .before in
+    let month = day .before in
+    let year = month .before in
+    simp (c .first2 .ensures, c .before .first .ensures, day .part-refusal3 .ensures, month .part-refusal2 .ensures, year .part-refusal .ensures) refl
 
 pub day-refusal-spec : {M : Type 1} → statement M
 day-refusal-spec = tie.close (tie.spec part-refusal-requires part-refusal-requires-2 part-refusal-requires-3 first-requires first-requires-2 returns)

@@ -1,5 +1,5 @@
 -- `document::lines::lines_in` meets its contract. Assumes nothing.
-use mathlib.Core.Path.{_≡_, sym, subst}
+use mathlib.Core.Path.{_≡_, refl, sym, subst}
 use native.Mathlib.Omega.{arith}
 use mir.Syntax.{w32}
 use mir.Val.{SFits, toZ, ofZ}
@@ -28,7 +28,11 @@ position-of-requires c κs = search needs
 
 returns : tie.Need-returns
 unfolding linesIn
-returns c = let same = back c in cc
+returns c =
+    let count = c .before in
+    let reset = count .before in
+    let set = reset .before in
+    rw (back c, c .position-of .ensures, count .four-digits3 .ensures .0, reset .four-digits2 .ensures .0, set .four-digits .ensures .0) refl
 
 pub lines-in-spec : {M : Type 1} → statement M
 lines-in-spec =

@@ -1,5 +1,5 @@
 -- `document::segments::sub_commutation` meets its contract. Assumes nothing.
-use mathlib.Core.Path.{sym, _∙_}
+use mathlib.Core.Path.{refl, sym, _∙_}
 use Prim.Native.Nat.{_≤_}
 use borrow.Author.Needs.{needs}
 use denote.Ref.{now}
@@ -33,7 +33,7 @@ returns-2 : tie.Need-returns-2
 unfolding subCommutationOf
 returns-2 c =
     let tested = c .before .before in
-    given-none Refused _ _ _ _ (tested .before .sub-refusal .ensures) (tested .if1 .left) (cc)
+    given-none Refused _ _ _ _ (tested .before .sub-refusal .ensures) (tested .if1 .left) (simp (c .before .doc-byte .ensures, c .doc-byte2 .ensures) refl)
 
 pub sub-commutation-spec : {M : Type 1} → statement M
 sub-commutation-spec =

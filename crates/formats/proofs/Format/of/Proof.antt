@@ -1,6 +1,6 @@
 -- `formats::Format::of` meets its contract: each arm knows its number, and the constructors say what they make.
 -- Assumes nothing.
-use mathlib.Core.Path.{ap}
+use mathlib.Core.Path.{refl, ap}
 use borrow.Author.Needs.{needs}
 use borrow.Author.Tests.{ne-eqb}
 use Rattle.formats.specs.declared.Known.the-variants.{Is}
@@ -20,7 +20,7 @@ returns-2 : tie.Need-returns-2
 returns-2 c = rw (c .before .match .keys2) (ap Is (c .hirid .ensures))
 
 returns-3 : tie.Need-returns-3
-returns-3 c = simp (ne-eqb _ _ (c .match .rest .0 .1), ne-eqb _ _ (c .match .rest .1))
+returns-3 c = simp (ne-eqb _ _ (c .match .rest .0 .1), ne-eqb _ _ (c .match .rest .1)) refl
 
 pub of-spec : {M : Type 1} → statement M
 of-spec = tie.close (tie.spec svissr-requires hirid-requires returns returns-2 returns-3)

@@ -1,10 +1,11 @@
 -- `sectors::check::answer` meets its contract: each test decides one case of the answer. Assumes nothing.
-use mathlib.Core.Path.{sym, ap, _∙_}
+use mathlib.Core.Path.{_≡_, sym, _∙_}
 use denote.Ref.{now}
 use Rattle.crc.specs.Remainder.{remainderOf}
 use borrow.Author.Needs.{needs}
-use Rattle.bits.specs.Bits.{bitsOf}
-use Rattle.sectors.proofs.Answers.{answer-five, answer-six, answer-none, covered-part, id-part}
+use Rattle.bits.specs.Bits.{bitsOf, part}
+use Rattle.sectors.specs.Sector.{stretch, coveredOf}
+use Rattle.sectors.proofs.Answers.{answer-five, answer-six, answer-none, id-part}
 use Rattle.sectors.proofs.check.answer.Statement.{statement}
 use Rattle.sectors.proofs.check.answer.Tie as tie
 
@@ -17,11 +18,16 @@ add-remainder-2 c = search needs
 remainder-requires : tie.Need-remainder-requires
 remainder-requires c κs = search needs
 
+-- the remainder over ID, data and check
+read : (c : tie.After-remainder) → let a = c .before .before .before .args in
+    c .remainder .result ≡ remainderOf (a .start) (coveredOf (a .l) (bitsOf (now (a .line))))
+unfolding part coveredOf stretch
+read c = c .remainder .ensures
+
 returns : tie.Need-returns
 returns c =
     let a = c .before .before .before .before .args in
-    let read = ap (remainderOf (a .start)) (covered-part (a .l) (now (a .line))) in
-    answer-five (a .start) (a .l) (bitsOf (now (a .line))) (λ z. c .if1 .taken (c .before .remainder .ensures ∙ read ∙ z))
+    answer-five (a .start) (a .l) (bitsOf (now (a .line))) (λ z. c .if1 .taken (read (c .before) ∙ z))
 
 field-requires : tie.Need-field-requires
 field-requires c κs = search needs
@@ -30,18 +36,16 @@ returns-2 : tie.Need-returns-2
 returns-2 c =
     let first = c .before .before .before in
     let a = first .before .before .before .before .args in
-    let read = ap (remainderOf (a .start)) (covered-part (a .l) (now (a .line))) in
     answer-six (a .start) (a .l) (bitsOf (now (a .line)))
-    (sym (first .before .remainder .ensures ∙ read) ∙ first .if1 .left)
+    (sym (read (first .before)) ∙ first .if1 .left)
     (λ z. c .if2 .taken (c .before .before .field .ensures .0 ∙ id-part (a .l) (now (a .line)) ∙ z))
 
 returns-3 : tie.Need-returns-3
 returns-3 c =
     let first = c .before .before .before in
     let a = first .before .before .before .before .args in
-    let read = ap (remainderOf (a .start)) (covered-part (a .l) (now (a .line))) in
     answer-none (a .start) (a .l) (bitsOf (now (a .line)))
-    (sym (first .before .remainder .ensures ∙ read) ∙ first .if1 .left)
+    (sym (read (first .before)) ∙ first .if1 .left)
     (sym (c .before .before .field .ensures .0 ∙ id-part (a .l) (now (a .line))) ∙ c .if2 .left)
 
 pub answer-spec : {M : Type 1} → statement M

@@ -64,7 +64,7 @@ layout-of-requires-2 c κs = let h = admit (c .before .before .before .before .b
 
 answer-requires : tie.Need-answer-requires
 answer-requires c κs =
-    let h = admit (c .before .before .before .before .before .before) in (subst Sound (sym (c .layout-of2 .ensures)) (sound (c .before .before .before .before .before .before .before .before .before .args .channel + 8) (omega arith) (omega (arith, h .high))), h .long)
+    let h = admit (c .before .before .before .before .before .before) in (subst Sound (sym (c .layout-of2 .ensures)) (sound _ (omega arith) (omega (arith, h .high))), h .long)
 
 returns-3 : tie.Need-returns-3
 unfolding joinedNumber

@@ -42,9 +42,10 @@ returns c =
     let s = now (x .strip) in
     let a = (x .sector - 5) * partBytes in
     let b = bitsOf (now (x .line)) in
+    let lent : c .before .before .visible .last .1 .1 .1 .0 ≡ visibleOf (x .start) (x .sector) b (take (a + partBytes - a) (drop a s)) = c .before .before .visible .ensures .1 in
     let width : a + partBytes - a ≡ partBytes = omega arith in (
       c .before .before .visible .ensures .0,
-      ap (λ (y : List ℕ). take a s ++ (y ++ drop (a + partBytes - a) (drop a s))) (c .before .before .visible .ensures .1)
+      ap (λ (y : List ℕ). take a s ++ (y ++ drop (a + partBytes - a) (drop a s))) lent
           ∙ ap (λ (k : ℕ). take a s ++ (visibleOf (x .start) (x .sector) b (take k (drop a s)) ++ drop k (drop a s))) width,
     )
 
