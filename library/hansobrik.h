@@ -13,7 +13,7 @@
  * - Bytes of a buffer behind a call's result are kept.
  * - Numbers have the width that is declared: C cuts a wider one without a word, so compile with -Wconversion.
  *
- * Link with librack.a. The library has no state of its own, takes no memory and calls nobody.
+ * Link with librack.a. The library has no state of its own and takes no memory; of the C library it needs memset alone.
  */
 #ifndef HANSOBRIK_H
 #define HANSOBRIK_H

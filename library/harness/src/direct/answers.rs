@@ -1,0 +1,150 @@
+//! The raw answers laid out field by field, in the header's order.
+
+use hansobrik::raw::*;
+
+/// The reader's record out of its fields.
+pub fn state(n: &[u64]) -> State {
+    State {
+        position: n[0] as usize,
+        search: n[1],
+        register: n[2] as u16,
+        in_line: n[3] as u8,
+        search_count: n[4] as u8,
+        unread: n[5] as u8,
+        unread_count: n[6] as u8,
+        waiting: n[7] as u8,
+        waiting_count: n[8] as u8,
+    }
+}
+
+/// The fields of the reader's record.
+pub fn record(s: State) -> Vec<u64> {
+    vec![
+        s.position as u64,
+        s.search,
+        s.register.into(),
+        s.in_line.into(),
+        s.search_count.into(),
+        s.unread.into(),
+        s.unread_count.into(),
+        s.waiting.into(),
+        s.waiting_count.into(),
+    ]
+}
+
+pub fn alone(refused: u8) -> Vec<u64> {
+    vec![refused.into()]
+}
+
+pub fn lengths(a: FormatAnswer) -> Vec<u64> {
+    vec![
+        a.refused.into(),
+        a.number.into(),
+        a.sync_bits as u64,
+        a.information_bits as u64,
+        a.dummy_bits as u64,
+        a.bytes as u64,
+    ]
+}
+
+pub fn step(a: StepAnswer) -> Vec<u64> {
+    vec![a.refused.into(), a.bit.into(), a.register.into()]
+}
+
+pub fn count(a: CountAnswer) -> Vec<u64> {
+    vec![a.refused.into(), a.count as u64]
+}
+
+pub fn read(a: ReadAnswer) -> Vec<u64> {
+    let head = vec![a.refused.into(), a.complete.into(), a.taken as u64];
+    [head, record(a.state)].concat()
+}
+
+pub fn strip(a: StripAnswer) -> Vec<u64> {
+    let parts = a.vis.map(u64::from);
+    [vec![a.refused.into()], parts.to_vec()].concat()
+}
+
+pub fn integer(a: IntegerAnswer) -> Vec<u64> {
+    vec![a.refused.into(), a.value.into()]
+}
+
+pub fn bcd(a: BcdAnswer) -> Vec<u64> {
+    vec![a.refused.into(), a.value]
+}
+
+pub fn real(a: RealAnswer) -> Vec<u64> {
+    vec![
+        a.refused.into(),
+        a.negative.into(),
+        a.places.into(),
+        a.magnitude,
+    ]
+}
+
+pub fn float(a: FloatAnswer) -> Vec<u64> {
+    vec![a.refused.into(), a.value.to_bits()]
+}
+
+pub fn name(a: NameAnswer) -> Vec<u64> {
+    vec![a.refused.into(), a.name.into(), a.byte.into()]
+}
+
+pub fn lines(a: LinesAnswer) -> Vec<u64> {
+    vec![
+        a.refused.into(),
+        a.set_line.into(),
+        a.reset_line.into(),
+        a.scan_count.into(),
+        i64::from(a.position) as u64,
+    ]
+}
+
+pub fn date(a: DateAnswer) -> Vec<u64> {
+    vec![
+        a.refused.into(),
+        a.month.into(),
+        a.day.into(),
+        a.hour.into(),
+        a.minute.into(),
+        a.second.into(),
+        a.hundredths.into(),
+        a.year.into(),
+    ]
+}
+
+pub fn segment(a: SegmentAnswer) -> Vec<u64> {
+    vec![a.refused.into(), a.segment.into(), a.repeat.into()]
+}
+
+pub fn added(a: AddAnswer) -> Vec<u64> {
+    vec![
+        a.refused.into(),
+        a.first_copy.into(),
+        a.segment.into(),
+        a.marks.into(),
+    ]
+}
+
+pub fn grid(a: GridAnswer) -> Vec<u64> {
+    vec![
+        a.refused.into(),
+        a.line.into(),
+        a.pixel.into(),
+        i64::from(a.latitude) as u64,
+        i64::from(a.longitude) as u64,
+    ]
+}
+
+pub fn orbit(a: OrbitAnswer) -> Vec<u64> {
+    let elements = [
+        a.epoch,
+        a.axis,
+        a.eccentricity,
+        a.inclination,
+        a.node,
+        a.perigee,
+        a.anomaly,
+    ];
+    [vec![a.refused.into()], elements.map(f64::to_bits).to_vec()].concat()
+}

@@ -1,0 +1,239 @@
+//! The safe functions of the crate `hansobrik`. A `Result` is turned into the
+//! fields of the answer; the record and the marks, which they change in place,
+//! are taken as they stand after the call, refused or not.
+
+use hansobrik::{self as safe, Refusal};
+
+use super::answers::{record, state};
+use crate::call::{Call, Lent, Outcome};
+use crate::rows::Name;
+
+/// The fields of an answer behind `refused`, or the refusal.
+type Answer = Result<Vec<u64>, Refusal>;
+
+/// The call through the safe functions.
+pub fn through_safe(call: &Call) -> Outcome {
+    let mut lent = call.lent.clone();
+    let n = call.numbers.as_slice();
+    let numbers = match call.name {
+        // these two cannot be refused
+        Name::Fresh => record(safe::fresh()),
+        Name::NoMarks => vec![safe::no_marks().into()],
+        // and these two change what the caller keeps
+        Name::Read => read(n, &mut lent),
+        Name::AddSegment => add_segment(n, &mut lent),
+        _ => match answer(call.name, n, &mut lent) {
+            Ok(fields) => [vec![0], fields].concat(),
+            Err(Refusal(number)) => call.refused(number),
+        },
+    };
+    Outcome {
+        numbers,
+        lent,
+        harm: None,
+    }
+}
+
+fn read(n: &[u64], lent: &mut [Lent]) -> Vec<u64> {
+    let [piece, line] = lent else {
+        panic!("two buffers are asked for");
+    };
+    let mut state = state(&n[1..]);
+    let head = match safe::read(n[0] as u8, &mut state, piece.bytes(), line.bytes_mut()) {
+        Ok(read) => vec![0, read.complete.into(), read.taken as u64],
+        Err(Refusal(number)) => vec![number.into(), 0, 0],
+    };
+    [head, record(state)].concat()
+}
+
+fn add_segment(n: &[u64], lent: &mut [Lent]) -> Vec<u64> {
+    let [line, block] = lent else {
+        panic!("two buffers are asked for");
+    };
+    let mut marks = n[1] as u32;
+    let block = block.bytes_mut();
+    match safe::add_segment(n[0] as u8, &mut marks, line.bytes(), n[2] as u8, block) {
+        Ok(a) => vec![0, a.first_copy.into(), a.segment.into(), marks.into()],
+        Err(Refusal(number)) => vec![number.into(), 0, 0, marks.into()],
+    }
+}
+
+fn answer(name: Name, n: &[u64], lent: &mut [Lent]) -> Answer {
+    match lent {
+        [] => of_numbers(name, n),
+        [one] => of_one(name, n, one),
+        [one, two] => of_two(name, n, one, two),
+        _ => panic!("no call has so many buffers"),
+    }
+}
+
+fn of_numbers(name: Name, n: &[u64]) -> Answer {
+    match name {
+        Name::Format => safe::format(n[0] as u8).map(|f| {
+            vec![
+                f.number.into(),
+                f.sync_bits as u64,
+                f.information_bits as u64,
+                f.dummy_bits as u64,
+                f.bytes as u64,
+            ]
+        }),
+        Name::Stepped => safe::stepped(n[0] as u16).map(step),
+        _ => panic!("{name:?} has a buffer"),
+    }
+}
+
+fn step(step: safe::Step) -> Vec<u64> {
+    vec![step.bit.into(), step.register.into()]
+}
+
+fn of_one(name: Name, n: &[u64], lent: &mut Lent) -> Answer {
+    match name {
+        Name::Step => safe::step(&mut lent.words_mut()[0]).map(step),
+        Name::PutSync => safe::put_sync(n[0] as u8, lent.bytes_mut()).map(count),
+        Name::Accepted => safe::accepted(n[0] as u8, lent.bytes(), n[1] as u8).map(none),
+        Name::Filler => safe::filler(n[0] as u8, lent.bytes(), n[1] as u8).map(count),
+        Name::ReadInteger => safe::read_integer(lent.bytes(), n[0] as usize).map(integer),
+        Name::ReadBcd => safe::read_bcd(lent.bytes(), n[0] as usize).map(bcd),
+        Name::ReadReal => safe::read_real(lent.bytes(), n[0] as usize, n[1] as u8).map(real),
+        Name::ReadF64 => safe::read_f64(lent.bytes(), n[0] as usize, n[1] as u8).map(float),
+        Name::PutReal => {
+            let (negative, size, places) = (n[0] == 1, n[2] as usize, n[3] as u8);
+            safe::put_real(negative, n[1], size, places, lent.bytes_mut()).map(none)
+        }
+        Name::Mapping | Name::Elements => of_block(name, n, lent.bytes()),
+        Name::Albedo | Name::AlbedoF64 | Name::Temperature | Name::TemperatureF64 => {
+            of_block(name, n, lent.bytes())
+        }
+        _ => of_document(name, n, lent.bytes()),
+    }
+}
+
+fn of_document(name: Name, n: &[u64], line: &[u8]) -> Answer {
+    let format = n[0] as u8;
+    let place = || n[1] as usize;
+    let size = || n[2] as usize;
+    let places = || n[3] as u8;
+    match name {
+        Name::ScanMode => safe::scan_mode(format, line).map(|mode| match mode {
+            safe::ScanMode::Full => vec![1, 0x00],
+            safe::ScanMode::Limited => vec![2, 0x0F],
+            safe::ScanMode::Single => vec![3, 0xFF],
+            safe::ScanMode::Unnamed(byte) => vec![0, byte.into()],
+        }),
+        Name::ScannerSelect => safe::scanner_select(format, line).map(|mirror| match mirror {
+            safe::Mirror::OneA => vec![1, 0xFF],
+            safe::Mirror::OneB => vec![2, 0xF0],
+            safe::Mirror::TwoA => vec![3, 0x00],
+            safe::Mirror::TwoB => vec![4, 0x0F],
+            safe::Mirror::Unnamed(byte) => vec![0, byte.into()],
+        }),
+        Name::LineNumbers => safe::line_numbers(format, line).map(|l| {
+            vec![
+                l.set_line.into(),
+                l.reset_line.into(),
+                l.scan_count.into(),
+                i64::from(l.position) as u64,
+            ]
+        }),
+        Name::Date => safe::date(format, line).map(|d| {
+            let parts = [d.month, d.day, d.hour, d.minute, d.second, d.hundredths];
+            [parts.map(u64::from).to_vec(), vec![d.year.into()]].concat()
+        }),
+        Name::SubCommutation => safe::sub_commutation(format, line)
+            .map(|sent| vec![sent.segment.into(), sent.repeat.into()]),
+        Name::IntegerField => safe::integer_field(format, line, place(), size()).map(integer),
+        Name::BcdField => safe::bcd_field(format, line, place(), size()).map(bcd),
+        Name::RealField => safe::real_field(format, line, place(), size(), places()).map(real),
+        Name::F64Field => safe::f64_field(format, line, place(), size(), places()).map(float),
+        _ => panic!("{name:?} reads no line"),
+    }
+}
+
+fn of_block(name: Name, n: &[u64], block: &[u8]) -> Answer {
+    let (format, marks) = (n[0] as u8, n[1] as u32);
+    let channel = || n[2] as u8;
+    let level = || n[3] as u16;
+    match name {
+        Name::Mapping => {
+            let (row, column) = (n[2] as u16, n[3] as u16);
+            safe::mapping(format, marks, block, row, column).map(|point| {
+                vec![
+                    point.line.into(),
+                    point.pixel.into(),
+                    i64::from(point.latitude) as u64,
+                    i64::from(point.longitude) as u64,
+                ]
+            })
+        }
+        Name::Albedo => safe::albedo(format, marks, block, channel(), level()).map(real),
+        Name::AlbedoF64 => safe::albedo_f64(format, marks, block, channel(), level()).map(float),
+        Name::Temperature => safe::temperature(format, marks, block, channel(), level()).map(real),
+        Name::TemperatureF64 => {
+            safe::temperature_f64(format, marks, block, channel(), level()).map(float)
+        }
+        Name::Elements => safe::elements(format, marks, block).map(|e| {
+            let elements = [
+                e.epoch,
+                e.axis,
+                e.eccentricity,
+                e.inclination,
+                e.node,
+                e.perigee,
+                e.anomaly,
+            ];
+            elements.map(f64::to_bits).to_vec()
+        }),
+        _ => panic!("{name:?} reads no block"),
+    }
+}
+
+fn of_two(name: Name, n: &[u64], one: &mut Lent, two: &mut Lent) -> Answer {
+    let format = n[0] as u8;
+    let number = || n[1] as u8;
+    match name {
+        Name::WriteLine => safe::write_line(format, one.bytes(), two.bytes_mut()).map(count),
+        Name::Data => safe::data(format, one.bytes(), number(), two.bytes_mut()).map(none),
+        Name::Pixels => safe::pixels(format, one.bytes(), number(), two.bytes_mut()).map(none),
+        Name::PixelsWide => {
+            safe::pixels_wide(format, one.bytes(), number(), two.words_mut()).map(none)
+        }
+        Name::Joined => safe::joined(format, one.bytes(), number(), two.words_mut()).map(none),
+        Name::Strip => safe::strip(format, one.bytes(), two.bytes_mut()).map(|parts| {
+            let number = |part: Result<(), Refusal>| part.err().map_or(0, |refusal| refusal.0);
+            parts.map(|part| number(part).into()).to_vec()
+        }),
+        Name::PutData => safe::put_data(format, one.bytes_mut(), number(), two.bytes()).map(none),
+        Name::PutPixels => {
+            safe::put_pixels(format, one.bytes_mut(), number(), two.bytes()).map(none)
+        }
+        Name::PutPixelsWide => {
+            safe::put_pixels_wide(format, one.bytes_mut(), number(), two.words()).map(none)
+        }
+        _ => panic!("{name:?} has not two buffers"),
+    }
+}
+
+fn none(_: ()) -> Vec<u64> {
+    vec![]
+}
+
+fn count(count: usize) -> Vec<u64> {
+    vec![count as u64]
+}
+
+fn integer(value: u32) -> Vec<u64> {
+    vec![value.into()]
+}
+
+fn bcd(value: u64) -> Vec<u64> {
+    vec![value]
+}
+
+fn real(r: safe::R) -> Vec<u64> {
+    vec![r.negative.into(), r.places.into(), r.magnitude]
+}
+
+fn float(value: f64) -> Vec<u64> {
+    vec![value.to_bits()]
+}

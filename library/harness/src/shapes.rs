@@ -1,0 +1,155 @@
+//! What several rows share: numbers handed in, buffers, fields of answers,
+//! refusals. Names are the header's.
+
+use crate::rows::{Kept, Part};
+
+pub type Numbers = &'static [(&'static str, u32)];
+pub type Parts = &'static [Part];
+pub type Fields = &'static [&'static str];
+pub type Refusals = &'static [u8];
+
+// Numbers handed in, and the bits of each.
+pub const FORMAT: Numbers = &[("format", 8)];
+pub const REGISTER: Numbers = &[("register_", 16)];
+pub const SECTOR: Numbers = &[("format", 8), ("sector", 8)];
+pub const CHANNEL: Numbers = &[("format", 8), ("channel", 8)];
+pub const READING: Numbers = &[
+    ("format", 8),
+    ("position", 64),
+    ("search", 64),
+    ("register_", 16),
+    ("in_line", 8),
+    ("search_count", 8),
+    ("unread", 8),
+    ("unread_count", 8),
+    ("waiting", 8),
+    ("waiting_count", 8),
+];
+pub const SIZE: Numbers = &[("n", 64)];
+pub const R_FORM: Numbers = &[("n", 64), ("m", 8)];
+pub const R_PUT: Numbers = &[("negative", 1), ("magnitude", 64), ("n", 64), ("m", 8)];
+pub const FIELD: Numbers = &[("format", 8), ("place", 64), ("n", 64)];
+pub const R_FIELD: Numbers = &[("format", 8), ("place", 64), ("n", 64), ("m", 8)];
+pub const ADDING: Numbers = &[("format", 8), ("marks", 32), ("number", 8)];
+pub const POINT: Numbers = &[("format", 8), ("marks", 32), ("row", 16), ("column", 16)];
+pub const LEVEL: Numbers = &[("format", 8), ("marks", 32), ("channel", 8), ("level", 16)];
+pub const MARKED: Numbers = &[("format", 8), ("marks", 32)];
+
+const fn part(what: &'static str, words: bool, written: bool) -> Part {
+    Part {
+        what,
+        words,
+        written,
+    }
+}
+
+// Buffers: of bytes or of 16-bit numbers; only read, or written too.
+pub const LINE: Part = part("line", false, false);
+pub const LINE_WRITTEN: Part = part("line", false, true);
+pub const PIECE: Part = part("piece", false, false);
+pub const BYTES: Part = part("bytes", false, false);
+pub const PIXELS: Part = part("pixels", false, false);
+pub const PIXELS_WIDE: Part = part("pixels", true, false);
+pub const BLOCK: Part = part("block", false, false);
+pub const BLOCK_WRITTEN: Part = part("block", false, true);
+pub const OUT: Part = part("out", false, true);
+pub const OUT_WIDE: Part = part("out", true, true);
+pub const STRIP: Part = part("strip", false, true);
+pub const REGISTER_LENT: Part = part("register_", true, true);
+
+// Fields of the answers.
+pub const ALONE: Fields = &["refused"];
+pub const COUNT: Fields = &["refused", "count"];
+pub const LENGTHS: Fields = &[
+    "refused",
+    "number",
+    "sync_bits",
+    "information_bits",
+    "dummy_bits",
+    "bytes",
+];
+pub const STEPPED: Fields = &["refused", "bit", "register_"];
+pub const RECORD: Fields = &[
+    "position",
+    "search",
+    "register_",
+    "in_line",
+    "search_count",
+    "unread",
+    "unread_count",
+    "waiting",
+    "waiting_count",
+];
+pub const READ: Fields = &[
+    "refused",
+    "complete",
+    "taken",
+    "position",
+    "search",
+    "register_",
+    "in_line",
+    "search_count",
+    "unread",
+    "unread_count",
+    "waiting",
+    "waiting_count",
+];
+pub const PARTS: Fields = &["refused", "vis[0]", "vis[1]", "vis[2]", "vis[3]"];
+pub const VALUE: Fields = &["refused", "value"];
+pub const REAL: Fields = &["refused", "negative", "places", "magnitude"];
+pub const NAMED: Fields = &["refused", "name", "byte"];
+pub const LINES: Fields = &[
+    "refused",
+    "set_line",
+    "reset_line",
+    "scan_count",
+    "position",
+];
+pub const DATED: Fields = &[
+    "refused",
+    "month",
+    "day",
+    "hour",
+    "minute",
+    "second",
+    "hundredths",
+    "year",
+];
+pub const SEGMENT: Fields = &["refused", "segment", "repeat"];
+pub const MARKS: Fields = &["marks"];
+pub const ADDED: Fields = &["refused", "first_copy", "segment", "marks"];
+pub const GRID: Fields = &["refused", "line", "pixel", "latitude", "longitude"];
+pub const ORBIT: Fields = &[
+    "refused",
+    "epoch",
+    "axis",
+    "eccentricity",
+    "inclination",
+    "node",
+    "perigee",
+    "anomaly",
+];
+
+// What comes back as it was handed in where a call is refused.
+pub const KEEPS_NOTHING: Kept = Kept {
+    field: 0,
+    number: 0,
+    count: 0,
+};
+pub const KEEPS_RECORD: Kept = Kept {
+    field: 3,
+    number: 1,
+    count: 9,
+};
+pub const KEEPS_MARKS: Kept = Kept {
+    field: 3,
+    number: 1,
+    count: 1,
+};
+
+// Refusals, in the order in which they are tested.
+pub const DECODED: Refusals = &[1, 4, 2, 3, 5, 6];
+pub const DOC: Refusals = &[1, 2, 5, 6];
+pub const DOC_FIELD: Refusals = &[1, 2, 5, 6, 7];
+pub const PLACED: Refusals = &[1, 10, 2, 5, 6];
+pub const ENTRY: Refusals = &[1, 12, 4, 10, 2, 9];

@@ -1,0 +1,199 @@
+//! The table of the calls is the header's: names and their order, the kinds of
+//! all numbers and buffers, the fields of the answers, the refusals.
+
+use std::collections::HashMap;
+
+use harness::rows::{Part, Row, ORDER, ROWS};
+
+const HEADER: &str = include_str!("../../hansobrik.h");
+
+/// The header in one line, from its first struct on, each comment's text
+/// between `/*` and `*/`.
+fn declarations() -> String {
+    let start = HEADER
+        .find("typedef struct")
+        .expect("the header has structs");
+    let text = HEADER[start..].replace("\n *", "\n");
+    let words: Vec<&str> = text.split_whitespace().collect();
+    words.join(" ")
+}
+
+/// The text without its comments.
+fn bare(text: &str) -> String {
+    let mut rest = text;
+    let mut bare = String::new();
+    while let Some((before, comment)) = rest.split_once("/*") {
+        bare += before;
+        rest = comment.split_once("*/").expect("the comment ends").1;
+    }
+    bare + rest
+}
+
+/// The bits of a type of C.
+fn bits(kind: &str) -> u32 {
+    match kind {
+        "bool" => 1,
+        "uint8_t" => 8,
+        "uint16_t" => 16,
+        "uint32_t" => 32,
+        "uint64_t" | "size_t" => 64,
+        _ => panic!("{kind} is not handed in"),
+    }
+}
+
+/// The structs by name: kind and name of each field, a record's fields and an
+/// array's elements one by one.
+fn structs() -> HashMap<String, Vec<(String, String)>> {
+    let mut structs: HashMap<String, Vec<(String, String)>> = HashMap::new();
+    let text = bare(&declarations());
+    for part in text.split("typedef struct {").skip(1) {
+        let (body, rest) = part.split_once('}').expect("a struct ends");
+        let name = rest.split(';').next().expect("it has a name").trim();
+        let mut fields = Vec::new();
+        for field in body.split(';').filter(|field| !field.trim().is_empty()) {
+            let (kind, field) = field.trim().split_once(' ').expect("kind and name");
+            match (structs.get(kind), field.split_once('[')) {
+                (Some(record), _) => fields.extend(record.clone()),
+                (None, Some((array, count))) => {
+                    let count: usize = count.trim_end_matches(']').parse().expect("a count");
+                    let element = |i| (kind.to_string(), format!("{array}[{i}]"));
+                    fields.extend((0..count).map(element));
+                }
+                (None, None) => fields.push((kind.to_string(), field.to_string())),
+            }
+        }
+        structs.insert(name.to_string(), fields);
+    }
+    structs
+}
+
+/// A call's declaration: what it answers, its parameters as kind and name.
+struct Declared {
+    answer: String,
+    parameters: Vec<(String, String)>,
+}
+
+fn declared(row: &Row, bare: &str) -> Declared {
+    let opening = format!(" hansobrik_{}(", row.text);
+    let (before, rest) = bare.split_once(&opening).expect(row.text);
+    let answer = before.split_whitespace().last().expect("an answer");
+    let parameters = rest.split_once(");").expect("it ends").0;
+    let parameter = |text: &str| {
+        let at = text.rfind([' ', '*']).expect("kind and name") + 1;
+        (text[..at].trim().to_string(), text[at..].to_string())
+    };
+    let parameters = parameters.split(',').map(str::trim);
+    Declared {
+        answer: answer.to_string(),
+        parameters: parameters.filter(|&p| p != "void").map(parameter).collect(),
+    }
+}
+
+fn part(kind: &str, what: &str) -> Part {
+    let what: &'static str = String::leak(what.to_string());
+    Part {
+        what,
+        words: kind.contains("uint16_t"),
+        written: !kind.starts_with("const"),
+    }
+}
+
+#[test]
+fn the_calls_stand_in_the_header_s_order() {
+    let text = bare(&declarations());
+    let declared: Vec<&str> = text
+        .split(" hansobrik_")
+        .skip(1)
+        .filter_map(|part| part.split_once('('))
+        .map(|(name, _)| name)
+        .filter(|name| name.chars().all(|c| c.is_alphanumeric() || c == '_'))
+        .collect();
+    let rows: Vec<&str> = ROWS.iter().map(|row| row.text).collect();
+    assert_eq!(declared, rows);
+    for (place, row) in ROWS.iter().enumerate() {
+        assert_eq!(row.name as usize, place);
+    }
+}
+
+#[test]
+fn numbers_and_buffers_are_as_declared() {
+    let structs = structs();
+    let text = bare(&declarations());
+    for row in &ROWS {
+        let mut numbers = Vec::new();
+        let mut lent = Vec::new();
+        for (kind, what) in declared(row, &text).parameters {
+            if kind.ends_with('*') {
+                lent.push(part(&kind, &what));
+            } else if what.ends_with("_count") {
+                // the count of the buffer before it
+            } else if let Some(record) = structs.get(&kind) {
+                let field = |(kind, what): &(String, String)| (what.clone(), bits(kind));
+                numbers.extend(record.iter().map(field));
+            } else {
+                numbers.push((what, bits(&kind)));
+            }
+        }
+        let handed: Vec<(String, u32)> = row
+            .numbers
+            .iter()
+            .map(|(what, bits)| (what.to_string(), *bits))
+            .collect();
+        assert_eq!(numbers, handed, "numbers of {}", row.text);
+        assert_eq!(lent, row.lent, "buffers of {}", row.text);
+    }
+}
+
+#[test]
+fn fields_are_those_of_the_answers() {
+    let structs = structs();
+    let text = bare(&declarations());
+    for row in &ROWS {
+        let answer = declared(row, &text).answer;
+        let fields: Vec<&str> = match structs.get(&answer) {
+            Some(fields) => fields.iter().map(|(_, what)| what.as_str()).collect(),
+            None if answer == "uint8_t" => vec!["refused"],
+            None => vec!["marks"],
+        };
+        assert_eq!(fields, row.fields, "{}", row.text);
+        let kept = &row.fields[row.kept.field..][..row.kept.count];
+        let handed = row.numbers[row.kept.number..][..row.kept.count].iter();
+        assert!(handed.map(|(what, _)| what).eq(kept), "{}", row.text);
+    }
+}
+
+/// The comment of a call ends with its refusals: "1, 12, 2.", or "0, or 10,
+/// 11, 3." A comment is for all the calls up to the next one.
+#[test]
+fn refusals_are_those_of_the_comments() {
+    let text = declarations();
+    for row in &ROWS {
+        let opening = format!(" hansobrik_{}(", row.text);
+        let before = text.split_once(&opening).expect(row.text).0;
+        let comment = before.rsplit_once("/*").expect("a comment").1;
+        let comment = comment.split_once("*/").expect("it ends").0.trim();
+        let last = comment.rsplit(". ").next().expect("a sentence");
+        let last = last.rsplit(": 0, or ").next().expect("the rest");
+        let mut refusals: Vec<u8> = last
+            .split(|c: char| !c.is_ascii_digit())
+            .filter_map(|number| number.parse().ok())
+            .filter(|&number| number != 0)
+            .collect();
+        if last.ends_with("and 7 of BCD.") && row.text != "bcd_field" {
+            refusals.retain(|&number| number != 7);
+        }
+        assert_eq!(refusals, row.refusals, "{}: {comment}", row.text);
+    }
+}
+
+#[test]
+fn the_order_of_refusals_is_the_header_s() {
+    let list = HEADER.split_once("enum {").expect("the first list").1;
+    let list = bare(list.split_once("};").expect("it ends").0);
+    let numbers: Vec<u8> = list
+        .split(',')
+        .filter_map(|entry| entry.split_once('='))
+        .map(|(_, number)| number.trim().parse().expect("a number"))
+        .collect();
+    assert_eq!(numbers, ORDER);
+}

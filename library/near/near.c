@@ -1,0 +1,72 @@
+/* The eight calls of hansobrik.h whose answers or records cross otherwise on this processor than on x86-64, for which the
+ * library's module is lowered. `far_` are the module's own functions under another name; the other 31 calls are the same on
+ * both and need nothing here. */
+#include "hansobrik.h"
+
+/* an answer of more than sixteen bytes: on x86-64 its address is the first argument */
+void *far_format(hansobrik_format_answer *out, uint8_t format);
+void *far_fresh(hansobrik_state *out);
+void *far_elements(hansobrik_orbit_answer *out, uint8_t format, uint32_t marks, const uint8_t *block, size_t block_count);
+
+/* near.ll */
+void near_read(hansobrik_read_answer *out, uint8_t format, const hansobrik_state *state, const uint8_t *piece,
+               size_t piece_count, uint8_t *line, size_t line_count);
+void near_read_f64(hansobrik_float_answer *out, const uint8_t *bytes, size_t bytes_count, size_t n, uint8_t m);
+void near_f64_field(hansobrik_float_answer *out, uint8_t format, const uint8_t *line, size_t line_count, size_t place,
+                    size_t n, uint8_t m);
+void near_albedo_f64(hansobrik_float_answer *out, uint8_t format, uint32_t marks, const uint8_t *block, size_t block_count,
+                     uint8_t channel, uint16_t level);
+void near_temperature_f64(hansobrik_float_answer *out, uint8_t format, uint32_t marks, const uint8_t *block,
+                          size_t block_count, uint8_t channel, uint16_t level);
+
+hansobrik_format_answer hansobrik_format(uint8_t format) {
+    hansobrik_format_answer out;
+    far_format(&out, format);
+    return out;
+}
+
+hansobrik_state hansobrik_fresh(void) {
+    hansobrik_state out;
+    far_fresh(&out);
+    return out;
+}
+
+hansobrik_orbit_answer hansobrik_elements(uint8_t format, uint32_t marks, const uint8_t *block, size_t block_count) {
+    hansobrik_orbit_answer out;
+    far_elements(&out, format, marks, block, block_count);
+    return out;
+}
+
+hansobrik_read_answer hansobrik_read(uint8_t format, hansobrik_state state, const uint8_t *piece, size_t piece_count,
+                                     uint8_t *line, size_t line_count) {
+    hansobrik_read_answer out;
+    near_read(&out, format, &state, piece, piece_count, line, line_count);
+    return out;
+}
+
+hansobrik_float_answer hansobrik_read_f64(const uint8_t *bytes, size_t bytes_count, size_t n, uint8_t m) {
+    hansobrik_float_answer out;
+    near_read_f64(&out, bytes, bytes_count, n, m);
+    return out;
+}
+
+hansobrik_float_answer hansobrik_f64_field(uint8_t format, const uint8_t *line, size_t line_count, size_t place, size_t n,
+                                           uint8_t m) {
+    hansobrik_float_answer out;
+    near_f64_field(&out, format, line, line_count, place, n, m);
+    return out;
+}
+
+hansobrik_float_answer hansobrik_albedo_f64(uint8_t format, uint32_t marks, const uint8_t *block, size_t block_count,
+                                            uint8_t channel, uint16_t level) {
+    hansobrik_float_answer out;
+    near_albedo_f64(&out, format, marks, block, block_count, channel, level);
+    return out;
+}
+
+hansobrik_float_answer hansobrik_temperature_f64(uint8_t format, uint32_t marks, const uint8_t *block, size_t block_count,
+                                                 uint8_t channel, uint16_t level) {
+    hansobrik_float_answer out;
+    near_temperature_f64(&out, format, marks, block, block_count, channel, level);
+    return out;
+}

@@ -1,0 +1,58 @@
+//! Weather-satellite lines, S-VISSR 2.0 (format 1) and HiRID (format 2).
+//!
+//! Safe Rust calls of the proved library, one for each call of `hansobrik.h`,
+//! named as there without the prefix. A call that can refuse gives a `Result`;
+//! a refused call changes no buffer, no state and no marks.
+//!
+//! Trusted here are the declarations of [`raw`] and that each safe call hands
+//! on the pointer and the count of its own slices.
+//!
+//! A line made, written for the wire, and read again in pieces:
+//!
+//! ```
+//! use hansobrik::{fresh, put_data, read, write_line, LINE_BYTES, S_VISSR, WIRE_BYTES_1};
+//!
+//! # fn main() -> Result<(), hansobrik::Refusal> {
+//! let mut sent = [0; LINE_BYTES];
+//! put_data(S_VISSR, &mut sent, 1, &[7; 2291])?;
+//! let mut wire = [0; WIRE_BYTES_1];
+//! write_line(S_VISSR, &sent, &mut wire)?;
+//!
+//! let mut line = [0; LINE_BYTES];
+//! let mut state = fresh();
+//! let mut lines = 0;
+//! for piece in wire.chunks(1000) {
+//!     let mut rest = piece;
+//!     while !rest.is_empty() {
+//!         let answer = read(S_VISSR, &mut state, rest, &mut line)?;
+//!         if answer.complete {
+//!             lines += 1;
+//!             assert!(line == sent);
+//!         }
+//!         rest = &rest[answer.taken..];
+//!     }
+//! }
+//! assert_eq!(lines, 1);
+//! # Ok(())
+//! # }
+//! ```
+
+pub mod raw;
+
+mod assembly;
+mod documentation;
+mod ground;
+mod number;
+mod recording;
+mod refusal;
+mod sector;
+mod sizes;
+
+pub use assembly::*;
+pub use documentation::*;
+pub use ground::*;
+pub use number::*;
+pub use recording::*;
+pub use refusal::Refusal;
+pub use sector::*;
+pub use sizes::*;

@@ -1,0 +1,396 @@
+//! The C calls as they are: the records and declarations of `hansobrik.h`.
+//!
+//! These declarations are trusted. No compiler compares them with the header
+//! or with the archive; `tests/boundary.rs` compares sizes and offsets.
+//!
+//! A buffer is a pointer and a count of its elements. Buffers lent to one call
+//! must not overlap; the safe calls of this crate take slices, which cannot.
+
+/// What a reader keeps between calls; 24 bytes without a gap. Every field 0 is
+/// a fresh one.
+#[repr(C)]
+#[derive(Clone, Copy, Debug, Default, PartialEq, Eq)]
+pub struct State {
+    /// In a line: the next line bit.
+    pub position: usize,
+    /// Between lines: the last bits since the search began, the last one
+    /// lowest.
+    pub search: u64,
+    /// In a line: the scrambling register.
+    pub register: u16,
+    /// 1 in a line, 0 between lines.
+    pub in_line: u8,
+    pub search_count: u8,
+    /// Between lines: bits of the last byte taken that are still to read.
+    pub unread: u8,
+    pub unread_count: u8,
+    /// In a line: bits that wait for their byte.
+    pub waiting: u8,
+    pub waiting_count: u8,
+}
+
+#[repr(C)]
+#[derive(Clone, Copy, Debug, Default, PartialEq, Eq)]
+pub struct FormatAnswer {
+    pub refused: u8,
+    pub number: u8,
+    pub sync_bits: usize,
+    pub information_bits: usize,
+    pub dummy_bits: usize,
+    pub bytes: usize,
+}
+
+#[repr(C)]
+#[derive(Clone, Copy, Debug, Default, PartialEq, Eq)]
+pub struct StepAnswer {
+    pub refused: u8,
+    pub bit: u8,
+    pub register: u16,
+}
+
+#[repr(C)]
+#[derive(Clone, Copy, Debug, Default, PartialEq, Eq)]
+pub struct CountAnswer {
+    pub refused: u8,
+    pub count: usize,
+}
+
+#[repr(C)]
+#[derive(Clone, Copy, Debug, Default, PartialEq, Eq)]
+pub struct ReadAnswer {
+    pub refused: u8,
+    pub complete: bool,
+    pub taken: usize,
+    pub state: State,
+}
+
+#[repr(C)]
+#[derive(Clone, Copy, Debug, Default, PartialEq, Eq)]
+pub struct StripAnswer {
+    pub refused: u8,
+    pub vis: [u8; 4],
+}
+
+#[repr(C)]
+#[derive(Clone, Copy, Debug, Default, PartialEq, Eq)]
+pub struct IntegerAnswer {
+    pub refused: u8,
+    pub value: u32,
+}
+
+#[repr(C)]
+#[derive(Clone, Copy, Debug, Default, PartialEq, Eq)]
+pub struct BcdAnswer {
+    pub refused: u8,
+    pub value: u64,
+}
+
+#[repr(C)]
+#[derive(Clone, Copy, Debug, Default, PartialEq, Eq)]
+pub struct RealAnswer {
+    pub refused: u8,
+    pub negative: bool,
+    pub places: u8,
+    pub magnitude: u64,
+}
+
+#[repr(C)]
+#[derive(Clone, Copy, Debug, Default, PartialEq)]
+pub struct FloatAnswer {
+    pub refused: u8,
+    pub value: f64,
+}
+
+#[repr(C)]
+#[derive(Clone, Copy, Debug, Default, PartialEq, Eq)]
+pub struct NameAnswer {
+    pub refused: u8,
+    pub name: u8,
+    pub byte: u8,
+}
+
+#[repr(C)]
+#[derive(Clone, Copy, Debug, Default, PartialEq, Eq)]
+pub struct LinesAnswer {
+    pub refused: u8,
+    pub set_line: u16,
+    pub reset_line: u16,
+    pub scan_count: u16,
+    pub position: i32,
+}
+
+#[repr(C)]
+#[derive(Clone, Copy, Debug, Default, PartialEq, Eq)]
+pub struct DateAnswer {
+    pub refused: u8,
+    pub month: u8,
+    pub day: u8,
+    pub hour: u8,
+    pub minute: u8,
+    pub second: u8,
+    pub hundredths: u8,
+    pub year: u16,
+}
+
+#[repr(C)]
+#[derive(Clone, Copy, Debug, Default, PartialEq, Eq)]
+pub struct SegmentAnswer {
+    pub refused: u8,
+    pub segment: u8,
+    pub repeat: u8,
+}
+
+#[repr(C)]
+#[derive(Clone, Copy, Debug, Default, PartialEq, Eq)]
+pub struct AddAnswer {
+    pub refused: u8,
+    pub first_copy: bool,
+    pub segment: u8,
+    pub marks: u32,
+}
+
+#[repr(C)]
+#[derive(Clone, Copy, Debug, Default, PartialEq, Eq)]
+pub struct GridAnswer {
+    pub refused: u8,
+    pub line: u16,
+    pub pixel: u16,
+    pub latitude: i16,
+    pub longitude: i16,
+}
+
+#[repr(C)]
+#[derive(Clone, Copy, Debug, Default, PartialEq)]
+pub struct OrbitAnswer {
+    pub refused: u8,
+    pub epoch: f64,
+    pub axis: f64,
+    pub eccentricity: f64,
+    pub inclination: f64,
+    pub node: f64,
+    pub perigee: f64,
+    pub anomaly: f64,
+}
+
+// Formats, scrambling, SYNC.
+extern "C" {
+    pub fn hansobrik_format(format: u8) -> FormatAnswer;
+    pub fn hansobrik_stepped(register: u16) -> StepAnswer;
+    pub fn hansobrik_step(register: *mut u16) -> StepAnswer;
+    pub fn hansobrik_put_sync(format: u8, out: *mut u8, out_count: usize) -> CountAnswer;
+}
+
+// Recordings.
+extern "C" {
+    pub fn hansobrik_fresh() -> State;
+    pub fn hansobrik_read(
+        format: u8,
+        state: State,
+        piece: *const u8,
+        piece_count: usize,
+        line: *mut u8,
+        line_count: usize,
+    ) -> ReadAnswer;
+    pub fn hansobrik_write_line(
+        format: u8,
+        line: *const u8,
+        line_count: usize,
+        out: *mut u8,
+        out_count: usize,
+    ) -> CountAnswer;
+}
+
+// The twelve sectors of a plain line.
+extern "C" {
+    pub fn hansobrik_accepted(format: u8, line: *const u8, line_count: usize, sector: u8) -> u8;
+    pub fn hansobrik_filler(
+        format: u8,
+        line: *const u8,
+        line_count: usize,
+        sector: u8,
+    ) -> CountAnswer;
+    pub fn hansobrik_data(
+        format: u8,
+        line: *const u8,
+        line_count: usize,
+        sector: u8,
+        out: *mut u8,
+        out_count: usize,
+    ) -> u8;
+    pub fn hansobrik_pixels(
+        format: u8,
+        line: *const u8,
+        line_count: usize,
+        sector: u8,
+        out: *mut u8,
+        out_count: usize,
+    ) -> u8;
+    pub fn hansobrik_pixels_wide(
+        format: u8,
+        line: *const u8,
+        line_count: usize,
+        sector: u8,
+        out: *mut u16,
+        out_count: usize,
+    ) -> u8;
+    pub fn hansobrik_joined(
+        format: u8,
+        line: *const u8,
+        line_count: usize,
+        channel: u8,
+        out: *mut u16,
+        out_count: usize,
+    ) -> u8;
+    pub fn hansobrik_strip(
+        format: u8,
+        line: *const u8,
+        line_count: usize,
+        strip: *mut u8,
+        strip_count: usize,
+    ) -> StripAnswer;
+    pub fn hansobrik_put_data(
+        format: u8,
+        line: *mut u8,
+        line_count: usize,
+        sector: u8,
+        bytes: *const u8,
+        bytes_count: usize,
+    ) -> u8;
+    pub fn hansobrik_put_pixels(
+        format: u8,
+        line: *mut u8,
+        line_count: usize,
+        sector: u8,
+        pixels: *const u8,
+        pixels_count: usize,
+    ) -> u8;
+    pub fn hansobrik_put_pixels_wide(
+        format: u8,
+        line: *mut u8,
+        line_count: usize,
+        sector: u8,
+        pixels: *const u16,
+        pixels_count: usize,
+    ) -> u8;
+}
+
+// Numbers at the front of a buffer.
+extern "C" {
+    pub fn hansobrik_read_integer(bytes: *const u8, bytes_count: usize, n: usize) -> IntegerAnswer;
+    pub fn hansobrik_read_bcd(bytes: *const u8, bytes_count: usize, n: usize) -> BcdAnswer;
+    pub fn hansobrik_read_real(bytes: *const u8, bytes_count: usize, n: usize, m: u8)
+        -> RealAnswer;
+    pub fn hansobrik_read_f64(bytes: *const u8, bytes_count: usize, n: usize, m: u8)
+        -> FloatAnswer;
+    pub fn hansobrik_put_real(
+        negative: bool,
+        magnitude: u64,
+        n: usize,
+        m: u8,
+        out: *mut u8,
+        out_count: usize,
+    ) -> u8;
+}
+
+// The documentation sector.
+extern "C" {
+    pub fn hansobrik_scan_mode(format: u8, line: *const u8, line_count: usize) -> NameAnswer;
+    pub fn hansobrik_scanner_select(format: u8, line: *const u8, line_count: usize) -> NameAnswer;
+    pub fn hansobrik_line_numbers(format: u8, line: *const u8, line_count: usize) -> LinesAnswer;
+    pub fn hansobrik_date(format: u8, line: *const u8, line_count: usize) -> DateAnswer;
+    pub fn hansobrik_sub_commutation(
+        format: u8,
+        line: *const u8,
+        line_count: usize,
+    ) -> SegmentAnswer;
+    pub fn hansobrik_integer_field(
+        format: u8,
+        line: *const u8,
+        line_count: usize,
+        place: usize,
+        n: usize,
+    ) -> IntegerAnswer;
+    pub fn hansobrik_bcd_field(
+        format: u8,
+        line: *const u8,
+        line_count: usize,
+        place: usize,
+        n: usize,
+    ) -> BcdAnswer;
+    pub fn hansobrik_real_field(
+        format: u8,
+        line: *const u8,
+        line_count: usize,
+        place: usize,
+        n: usize,
+        m: u8,
+    ) -> RealAnswer;
+    pub fn hansobrik_f64_field(
+        format: u8,
+        line: *const u8,
+        line_count: usize,
+        place: usize,
+        n: usize,
+        m: u8,
+    ) -> FloatAnswer;
+}
+
+// Blocks.
+extern "C" {
+    pub fn hansobrik_no_marks() -> u32;
+    pub fn hansobrik_add_segment(
+        format: u8,
+        marks: u32,
+        line: *const u8,
+        line_count: usize,
+        number: u8,
+        block: *mut u8,
+        block_count: usize,
+    ) -> AddAnswer;
+    pub fn hansobrik_mapping(
+        format: u8,
+        marks: u32,
+        block: *const u8,
+        block_count: usize,
+        row: u16,
+        column: u16,
+    ) -> GridAnswer;
+    pub fn hansobrik_albedo(
+        format: u8,
+        marks: u32,
+        block: *const u8,
+        block_count: usize,
+        channel: u8,
+        level: u16,
+    ) -> RealAnswer;
+    pub fn hansobrik_albedo_f64(
+        format: u8,
+        marks: u32,
+        block: *const u8,
+        block_count: usize,
+        channel: u8,
+        level: u16,
+    ) -> FloatAnswer;
+    pub fn hansobrik_temperature(
+        format: u8,
+        marks: u32,
+        block: *const u8,
+        block_count: usize,
+        channel: u8,
+        level: u16,
+    ) -> RealAnswer;
+    pub fn hansobrik_temperature_f64(
+        format: u8,
+        marks: u32,
+        block: *const u8,
+        block_count: usize,
+        channel: u8,
+        level: u16,
+    ) -> FloatAnswer;
+    pub fn hansobrik_elements(
+        format: u8,
+        marks: u32,
+        block: *const u8,
+        block_count: usize,
+    ) -> OrbitAnswer;
+}

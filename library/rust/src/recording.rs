@@ -1,0 +1,65 @@
+//! Recordings: the reader and the writer.
+
+use crate::raw;
+use crate::refusal::{unless, Refusal};
+
+pub use crate::raw::State;
+
+/// What a read did.
+#[derive(Clone, Copy, Debug, PartialEq, Eq)]
+pub struct Read {
+    /// Bytes taken of the piece; offer the rest again.
+    pub taken: usize,
+    /// A line stands whole in the buffer.
+    pub complete: bool,
+}
+
+/// A reader before a recording's first bit.
+pub fn fresh() -> State {
+    // SAFETY: it takes nothing.
+    unsafe { raw::hansobrik_fresh() }
+}
+
+/// Reads until a line is complete or the piece is used up. A complete line
+/// stands in the buffer until a later call finds the next tail. Refused with
+/// 1, 12, 2; `line` must have 44,356 bytes or more.
+///
+/// The record that the library gives back is stored in any case: a refused
+/// call gives back the one that was handed in.
+pub fn read(format: u8, state: &mut State, piece: &[u8], line: &mut [u8]) -> Result<Read, Refusal> {
+    // SAFETY: pointers and counts are those of two slices that do not overlap.
+    let a = unsafe {
+        raw::hansobrik_read(
+            format,
+            *state,
+            piece.as_ptr(),
+            piece.len(),
+            line.as_mut_ptr(),
+            line.len(),
+        )
+    };
+    *state = a.state;
+    unless(
+        a.refused,
+        Read {
+            taken: a.taken,
+            complete: a.complete,
+        },
+    )
+}
+
+/// One plain line on the wire at the front of `out`; how many bytes. Refused
+/// with 1, 2, 3.
+pub fn write_line(format: u8, line: &[u8], out: &mut [u8]) -> Result<usize, Refusal> {
+    // SAFETY: pointers and counts are those of two slices that do not overlap.
+    let a = unsafe {
+        raw::hansobrik_write_line(
+            format,
+            line.as_ptr(),
+            line.len(),
+            out.as_mut_ptr(),
+            out.len(),
+        )
+    };
+    unless(a.refused, a.count)
+}

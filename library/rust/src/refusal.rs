@@ -1,0 +1,68 @@
+//! Why a call was refused.
+
+use std::fmt;
+
+/// The number of a refusal, one of the twelve below.
+#[derive(Clone, Copy, Debug, PartialEq, Eq, Hash)]
+pub struct Refusal(pub u8);
+
+// In the order in which they are tested.
+impl Refusal {
+    pub const FORMAT: Refusal = Refusal(1);
+    pub const STATE: Refusal = Refusal(12);
+    pub const NUMBER: Refusal = Refusal(4);
+    pub const RANGE: Refusal = Refusal(10);
+    pub const MAGNITUDE: Refusal = Refusal(11);
+    pub const SHORT_INPUT: Refusal = Refusal(2);
+    pub const SHORT_OUTPUT: Refusal = Refusal(3);
+    pub const REMAINDER: Refusal = Refusal(5);
+    pub const ID: Refusal = Refusal(6);
+    pub const FIELD: Refusal = Refusal(7);
+    pub const SEGMENT: Refusal = Refusal(8);
+    pub const UNFINISHED: Refusal = Refusal(9);
+
+    /// What the header says of the number.
+    pub fn words(self) -> &'static str {
+        match self {
+            Refusal::FORMAT => "the format is neither 1 nor 2",
+            Refusal::STATE => "the reader's record, the register or the marks are impossible",
+            Refusal::NUMBER => {
+                "a sector, channel or block number that the call does not serve; \
+                 calibration-2 in format 2"
+            }
+            Refusal::RANGE => {
+                "level, grid point, number size or decimal places out of range; \
+                 a pixel over its width"
+            }
+            Refusal::MAGNITUDE => "a magnitude over 2^31-1 (n 4) or 2^47-1 (n 6), on writing",
+            Refusal::SHORT_INPUT => {
+                "line or block buffer, number bytes, sector data or pixels fewer than needed"
+            }
+            Refusal::SHORT_OUTPUT => "the output is shorter than the result",
+            Refusal::REMAINDER => "the sector's remainder is not 0",
+            Refusal::ID => "the remainder is 0, the ID not the sector's own",
+            Refusal::FIELD => {
+                "BCD digit over 9, date part out of range, bad segment or repeat bytes"
+            }
+            Refusal::SEGMENT => "the segment differs from the stored one",
+            Refusal::UNFINISHED => "an entry of a block without all 25 segments",
+            _ => "a number that the library does not give",
+        }
+    }
+}
+
+impl fmt::Display for Refusal {
+    fn fmt(&self, f: &mut fmt::Formatter<'_>) -> fmt::Result {
+        write!(f, "refused with {}: {}", self.0, self.words())
+    }
+}
+
+impl std::error::Error for Refusal {}
+
+/// The result of a call whose answer says `refused`: the value where that is 0.
+pub(crate) fn unless<T>(refused: u8, value: T) -> Result<T, Refusal> {
+    match refused {
+        0 => Ok(value),
+        number => Err(Refusal(number)),
+    }
+}

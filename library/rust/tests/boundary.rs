@@ -1,0 +1,318 @@
+//! The calls through the boundary: a line there and back, every refusal, empty
+//! slices.
+
+use hansobrik::*;
+
+/// Bytes of a sector's data.
+fn data_bytes(sector: u8) -> usize {
+    match sector {
+        1..=4 => DATA_BYTES_8,
+        5..=8 => DATA_BYTES_6,
+        9..=11 => DATA_BYTES_2,
+        _ => DATA_BYTES_10,
+    }
+}
+
+/// A line of zeros with all twelve sectors put.
+fn line_of_zeros(format: u8) -> Vec<u8> {
+    let mut line = vec![0; LINE_BYTES];
+    for sector in 1..=SECTORS {
+        put_data(format, &mut line, sector, &vec![0; data_bytes(sector)]).unwrap();
+    }
+    line
+}
+
+/// The same with other bytes in DOC, given from its byte 3 on.
+fn line_with(format: u8, doc: &[u8]) -> Vec<u8> {
+    let mut line = line_of_zeros(format);
+    put_data(format, &mut line, 1, doc).unwrap();
+    line
+}
+
+/// Calls with a copy of a buffer, and says whether the call was refused with
+/// this number and left the buffer as it was.
+fn leaves<B: Clone + PartialEq, T>(
+    buffer: &[B],
+    number: Refusal,
+    call: impl FnOnce(&mut [B]) -> Result<T, Refusal>,
+) -> bool {
+    let mut copy = buffer.to_vec();
+    let refused = call(&mut copy).err() == Some(number);
+    refused && copy == buffer
+}
+
+#[test]
+fn a_line_comes_back_byte_by_byte() {
+    for format in [S_VISSR, HIRID] {
+        let sent = line_of_zeros(format);
+        let mut wire = vec![0; WIRE_BYTES_2];
+        let count = write_line(format, &sent, &mut wire).unwrap();
+        assert_eq!(count, hansobrik::format(format).unwrap().bytes);
+        let mut line = vec![0xA5; LINE_BYTES];
+        let mut state = fresh();
+        let mut lines = 0;
+        for byte in &wire[..count] {
+            let answer = read(format, &mut state, &[*byte], &mut line).unwrap();
+            assert_eq!(answer.taken, 1);
+            lines += usize::from(answer.complete);
+        }
+        assert_eq!(lines, 1);
+        assert!(line == sent);
+        for sector in 1..=SECTORS {
+            assert_eq!(accepted(format, &line, sector), Ok(()));
+            assert_eq!(filler(format, &line, sector), Ok(0));
+        }
+    }
+}
+
+#[test]
+fn values_come_back() {
+    let mut line = line_of_zeros(S_VISSR);
+    put_pixels(S_VISSR, &mut line, 2, &[200; IR_PIXELS]).unwrap();
+    put_pixels(S_VISSR, &mut line, 9, &[3; IR_PIXELS]).unwrap();
+    put_pixels(S_VISSR, &mut line, 5, &[63; VIS_PIXELS]).unwrap();
+    put_pixels_wide(S_VISSR, &mut line, 12, &[1023; IR_PIXELS]).unwrap();
+    let mut upper = [0; IR_PIXELS];
+    pixels(S_VISSR, &line, 2, &mut upper).unwrap();
+    assert!(upper == [200; IR_PIXELS]);
+    let mut wide = [0; IR_PIXELS];
+    pixels_wide(S_VISSR, &line, 12, &mut wide).unwrap();
+    assert!(wide == [1023; IR_PIXELS]);
+    joined(S_VISSR, &line, 1, &mut wide).unwrap();
+    assert!(wide == [803; IR_PIXELS]);
+    let mut visible = [9; STRIP_BYTES];
+    assert_eq!(strip(S_VISSR, &line, &mut visible), Ok([Ok(()); 4]));
+    assert!(visible[..VIS_PIXELS] == [63; VIS_PIXELS]);
+    assert!(visible[VIS_PIXELS..] == [0; 3 * VIS_PIXELS]);
+
+    let mut real = [0; 6];
+    put_real(true, 1_234_567, 6, 4, &mut real).unwrap();
+    let expected = R {
+        negative: true,
+        magnitude: 1_234_567,
+        places: 4,
+    };
+    assert_eq!(read_real(&real, 6, 4), Ok(expected));
+    assert_eq!(read_f64(&real, 6, 4), Ok(-123.4567));
+}
+
+#[test]
+fn the_documentation_comes_back() {
+    let mut doc = [0; DATA_BYTES_8];
+    doc[0] = 0x0F;
+    doc[4..10].copy_from_slice(&[0x00, 0x03, 0x25, 0x00, 0x00, 0x01]);
+    doc[17..25].copy_from_slice(&[0x19, 0x96, 0x12, 0x31, 0x23, 0x59, 0x58, 0x99]);
+    doc[64] = 0xF1;
+    doc[191] = 24;
+    doc[193] = 7;
+    let line = line_with(HIRID, &doc);
+    assert_eq!(scan_mode(HIRID, &line), Ok(ScanMode::Limited));
+    assert_eq!(scanner_select(HIRID, &line), Ok(Mirror::Unnamed(0xF1)));
+    let lines = line_numbers(HIRID, &line).unwrap();
+    assert_eq!((lines.set_line, lines.reset_line), (3, 2500));
+    assert_eq!((lines.scan_count, lines.position), (1, -2));
+    let at = date(HIRID, &line).unwrap();
+    assert_eq!((at.year, at.month, at.day), (1996, 12, 31));
+    assert_eq!((at.hour, at.minute, at.second), (23, 59, 58));
+    assert_eq!(at.hundredths, 99);
+    let sent = sub_commutation(HIRID, &line).unwrap();
+    assert_eq!((sent.segment, sent.repeat), (24, 7));
+    assert_eq!(integer_field(HIRID, &line, 67, 1), Ok(0xF1));
+    assert_eq!(bcd_field(HIRID, &line, 20, 2), Ok(1996));
+    assert_eq!(f64_field(HIRID, &line, 161, 4, 7), Ok(0.0));
+    assert_eq!(real_field(HIRID, &line, 161, 4, 7).unwrap().places, 7);
+}
+
+#[test]
+fn a_block_is_put_together() {
+    let mut marks = no_marks();
+    let mut block = vec![0; MAPPING_BYTES];
+    for segment in 0..SEGMENTS {
+        let mut doc = [0; DATA_BYTES_8];
+        doc[191] = segment;
+        // Byte 197 starts the segment: one row of the grid.
+        doc[194..294].fill(segment);
+        let line = line_with(S_VISSR, &doc);
+        for first_copy in [true, false] {
+            let added = add_segment(S_VISSR, &mut marks, &line, MAPPING, &mut block).unwrap();
+            assert_eq!(
+                added,
+                Added {
+                    segment,
+                    first_copy
+                }
+            );
+        }
+    }
+    assert_eq!(marks, ALL_MARKS);
+    let point = mapping(S_VISSR, marks, &block, 24, 1).unwrap();
+    assert_eq!((point.line, point.pixel), (0x1818, 0x1818));
+    assert_eq!((point.latitude, point.longitude), (-60, 50));
+}
+
+#[test]
+fn a_refused_read_leaves_state_and_line() {
+    let wire = [0x55; 10];
+    let mut kept = fresh();
+    read(S_VISSR, &mut kept, &wire, &mut [0; LINE_BYTES]).unwrap();
+    let impossible = State {
+        in_line: 2,
+        ..fresh()
+    };
+    for (format, state, length, number) in [
+        (3, kept, LINE_BYTES, Refusal::FORMAT),
+        (3, impossible, 0, Refusal::FORMAT),
+        (1, impossible, 0, Refusal::STATE),
+        (2, kept, LINE_BYTES - 1, Refusal::SHORT_INPUT),
+    ] {
+        let mut after = state;
+        assert!(leaves(&vec![0xA5; length], number, |line| {
+            read(format, &mut after, &wire, line)
+        }));
+        assert_eq!(after, state);
+    }
+}
+
+#[test]
+fn refused_calls_leave_their_buffers() {
+    let line = line_of_zeros(S_VISSR);
+    let bytes = vec![0xA5; WIRE_BYTES_2];
+    let words = vec![0xA5A5u16; IR_PIXELS];
+    let mut damaged = line.clone();
+    damaged[LINE_BYTES / 24] ^= 1;
+    damaged[LINE_BYTES - 2864] ^= 1;
+    let no_ids = vec![0; LINE_BYTES];
+
+    assert!(leaves(&bytes, Refusal::FORMAT, |out| put_sync(0, out)));
+    assert!(leaves(&bytes[..1249], Refusal::SHORT_OUTPUT, |out| {
+        put_sync(1, out)
+    }));
+    assert!(leaves(&bytes, Refusal::FORMAT, |out| {
+        write_line(9, &line, out)
+    }));
+    assert!(leaves(&bytes, Refusal::SHORT_INPUT, |out| {
+        write_line(1, &line[1..], out)
+    }));
+    assert!(leaves(&bytes[..45_605], Refusal::SHORT_OUTPUT, |out| {
+        write_line(1, &line, out)
+    }));
+    assert!(leaves(&bytes, Refusal::NUMBER, |out| data(
+        1, &line, 13, out
+    )));
+    assert!(leaves(&bytes[..2290], Refusal::SHORT_OUTPUT, |out| {
+        data(1, &line, 1, out)
+    }));
+    assert!(leaves(&bytes, Refusal::REMAINDER, |out| {
+        data(1, &damaged, 1, out)
+    }));
+    assert!(leaves(&bytes, Refusal::ID, |out| data(1, &no_ids, 2, out)));
+    assert!(leaves(&bytes, Refusal::NUMBER, |out| {
+        pixels(1, &line, 12, out)
+    }));
+    assert!(leaves(&words, Refusal::NUMBER, |out| {
+        pixels_wide(1, &line, 11, out)
+    }));
+    assert!(leaves(&words, Refusal::REMAINDER, |out| {
+        pixels_wide(1, &damaged, 12, out)
+    }));
+    assert!(leaves(&words, Refusal::ID, |out| joined(
+        1, &no_ids, 3, out
+    )));
+    assert!(leaves(&bytes[..36_655], Refusal::SHORT_OUTPUT, |out| {
+        strip(1, &line, out)
+    }));
+    assert!(leaves(&line, Refusal::SHORT_INPUT, |l| {
+        put_data(1, l, 1, &[0; 2290])
+    }));
+    assert!(leaves(&line, Refusal::RANGE, |l| {
+        put_pixels(1, l, 9, &[4; IR_PIXELS])
+    }));
+    assert!(leaves(&line, Refusal::RANGE, |l| {
+        put_pixels_wide(1, l, 12, &[1024; IR_PIXELS])
+    }));
+    assert!(leaves(&bytes, Refusal::MAGNITUDE, |out| {
+        put_real(false, 1 << 31, 4, 0, out)
+    }));
+    assert!(leaves(&bytes, Refusal::RANGE, |out| {
+        put_real(false, 1 << 31, 5, 0, out)
+    }));
+    assert!(leaves(&bytes[..5], Refusal::SHORT_OUTPUT, |out| {
+        put_real(false, 1, 6, 0, out)
+    }));
+
+    let mut visible = bytes[..STRIP_BYTES].to_vec();
+    assert_eq!(strip(1, &no_ids, &mut visible), Ok([Err(Refusal::ID); 4]));
+    assert!(visible == bytes[..STRIP_BYTES]);
+    let mut register = 0x8000;
+    assert_eq!(step(&mut register), Err(Refusal::STATE));
+    assert_eq!(register, 0x8000);
+}
+
+#[test]
+fn refused_segments_leave_marks_and_block() {
+    let line = line_of_zeros(S_VISSR);
+    let mut bad_repeat = [0; DATA_BYTES_8];
+    bad_repeat[193] = 8;
+    let bad_repeat = line_with(S_VISSR, &bad_repeat);
+    let block = vec![0xA5; CALIBRATION_2_BYTES];
+    // Segment 0 counts as stored, and the buffer differs from the line's copy.
+    for (format, marks, line, number, length, refusal) in [
+        (0, 1, &line, 1, 2500, Refusal::FORMAT),
+        (1, 1 << 25, &line, 1, 2500, Refusal::STATE),
+        (2, 1, &line, 5, 25_600, Refusal::NUMBER),
+        (1, 1, &line, 5, 25_599, Refusal::SHORT_INPUT),
+        (1, 1, &bad_repeat, 1, 2500, Refusal::FIELD),
+        (1, 1, &line, 1, 2500, Refusal::SEGMENT),
+    ] {
+        let mut after = marks;
+        assert!(leaves(&block[..length], refusal, |b| {
+            add_segment(format, &mut after, line, number, b)
+        }));
+        assert_eq!(after, marks);
+    }
+    assert_eq!(mapping(1, 1, &block, 0, 0), Err(Refusal::UNFINISHED));
+    assert_eq!(elements(1, 1, &block), Err(Refusal::UNFINISHED));
+    assert_eq!(albedo(1, ALL_MARKS, &block, 1, 64), Err(Refusal::RANGE));
+    assert_eq!(temperature_f64(2, 1, &block, 5, 0), Err(Refusal::NUMBER));
+}
+
+#[test]
+fn empty_slices_are_looked_at_by_nobody() {
+    let mut state = fresh();
+    let nothing = Read {
+        taken: 0,
+        complete: false,
+    };
+    assert_eq!(read(1, &mut state, &[], &mut [0; LINE_BYTES]), Ok(nothing));
+    assert_eq!(state, fresh());
+    assert_eq!(read(1, &mut state, &[], &mut []), Err(Refusal::SHORT_INPUT));
+    assert_eq!(write_line(1, &[], &mut []), Err(Refusal::SHORT_INPUT));
+    assert_eq!(put_sync(2, &mut []), Err(Refusal::SHORT_OUTPUT));
+    assert_eq!(accepted(1, &[], 1), Err(Refusal::SHORT_INPUT));
+    assert_eq!(filler(1, &[], 1), Err(Refusal::SHORT_INPUT));
+    assert_eq!(
+        joined(1, &line_of_zeros(1), 1, &mut []),
+        Err(Refusal::SHORT_OUTPUT)
+    );
+    assert_eq!(
+        put_pixels_wide(1, &mut [0; LINE_BYTES], 12, &[]),
+        Err(Refusal::SHORT_INPUT)
+    );
+    assert_eq!(read_integer(&[], 1), Err(Refusal::SHORT_INPUT));
+    assert_eq!(read_bcd(&[], 6), Err(Refusal::SHORT_INPUT));
+    assert_eq!(
+        put_real(false, 0, 4, 0, &mut []),
+        Err(Refusal::SHORT_OUTPUT)
+    );
+    assert_eq!(date(1, &[]), Err(Refusal::SHORT_INPUT));
+    assert_eq!(elements(1, ALL_MARKS, &[]), Err(Refusal::SHORT_INPUT));
+}
+
+#[test]
+fn refusals_speak() {
+    let words = Refusal::SEGMENT.to_string();
+    assert_eq!(
+        words,
+        "refused with 8: the segment differs from the stored one"
+    );
+}

@@ -1,0 +1,54 @@
+//! The records as the header lays them out, for 64-bit machines. The numbers
+//! are C's: each field at the next multiple of its own size, the whole a
+//! multiple of the largest.
+
+use hansobrik::raw::*;
+use std::mem::{align_of, offset_of, size_of};
+
+/// Size, alignment and the offset of every field, in the header's order.
+macro_rules! laid_out {
+    ($record:ty, $size:expr, $align:expr, { $($field:ident: $offset:expr),* $(,)? }) => {
+        assert_eq!(size_of::<$record>(), $size, "size of {}", stringify!($record));
+        assert_eq!(align_of::<$record>(), $align, "alignment of {}", stringify!($record));
+        $(assert_eq!(
+            offset_of!($record, $field),
+            $offset,
+            "{}.{}",
+            stringify!($record),
+            stringify!($field)
+        );)*
+    };
+}
+
+#[test]
+fn records_have_the_layout_of_the_header() {
+    laid_out!(State, 24, 8, {
+        position: 0, search: 8, register: 16, in_line: 18, search_count: 19,
+        unread: 20, unread_count: 21, waiting: 22, waiting_count: 23,
+    });
+    laid_out!(FormatAnswer, 40, 8, {
+        refused: 0, number: 1, sync_bits: 8, information_bits: 16, dummy_bits: 24, bytes: 32,
+    });
+    laid_out!(StepAnswer, 4, 2, { refused: 0, bit: 1, register: 2 });
+    laid_out!(CountAnswer, 16, 8, { refused: 0, count: 8 });
+    laid_out!(ReadAnswer, 40, 8, { refused: 0, complete: 1, taken: 8, state: 16 });
+    laid_out!(StripAnswer, 5, 1, { refused: 0, vis: 1 });
+    laid_out!(IntegerAnswer, 8, 4, { refused: 0, value: 4 });
+    laid_out!(BcdAnswer, 16, 8, { refused: 0, value: 8 });
+    laid_out!(RealAnswer, 16, 8, { refused: 0, negative: 1, places: 2, magnitude: 8 });
+    laid_out!(FloatAnswer, 16, 8, { refused: 0, value: 8 });
+    laid_out!(NameAnswer, 3, 1, { refused: 0, name: 1, byte: 2 });
+    laid_out!(LinesAnswer, 12, 4, {
+        refused: 0, set_line: 2, reset_line: 4, scan_count: 6, position: 8,
+    });
+    laid_out!(DateAnswer, 10, 2, {
+        refused: 0, month: 1, day: 2, hour: 3, minute: 4, second: 5, hundredths: 6, year: 8,
+    });
+    laid_out!(SegmentAnswer, 3, 1, { refused: 0, segment: 1, repeat: 2 });
+    laid_out!(AddAnswer, 8, 4, { refused: 0, first_copy: 1, segment: 2, marks: 4 });
+    laid_out!(GridAnswer, 10, 2, { refused: 0, line: 2, pixel: 4, latitude: 6, longitude: 8 });
+    laid_out!(OrbitAnswer, 64, 8, {
+        refused: 0, epoch: 8, axis: 16, eccentricity: 24, inclination: 32, node: 40,
+        perigee: 48, anomaly: 56,
+    });
+}
