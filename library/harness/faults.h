@@ -1,0 +1,204 @@
+/* Wrong libraries, for library/harness/faults: FAULT says which. Each has one call that does as the library's, but for one
+ * thing; the call is handed on under the name `wrong`. FAULT 0 is none. */
+/* calls.c asks for it, and this file comes first */
+#define _DEFAULT_SOURCE
+
+#include "hansobrik.h"
+
+#include <string.h>
+
+#undef _DEFAULT_SOURCE
+
+#define BYTES const uint8_t *p, size_t c
+
+#if FAULT == 1 /* 2,048 set filler bits are counted as one less */
+static hansobrik_count_answer wrong(uint8_t f, BYTES, uint8_t s)
+{
+    hansobrik_count_answer a = hansobrik_filler(f, p, c, s);
+    if (a.count == 2048)
+        a.count--;
+    return a;
+}
+#define hansobrik_filler wrong
+#elif FAULT == 2 /* a negative zero loses its sign */
+static hansobrik_float_answer wrong(BYTES, size_t n, uint8_t k)
+{
+    hansobrik_float_answer a = hansobrik_read_f64(p, c, n, k);
+    a.value += 0.0;
+    return a;
+}
+#define hansobrik_read_f64 wrong
+#elif FAULT == 3 /* the last pixel of sector 11 is wrong */
+static uint8_t wrong(uint8_t f, BYTES, uint8_t s, uint8_t *o, size_t d)
+{
+    uint8_t a = hansobrik_pixels(f, p, c, s, o, d);
+    if (!a && s == 11)
+        o[2290] ^= 1;
+    return a;
+}
+#define hansobrik_pixels wrong
+#elif FAULT == 4 /* one byte written behind the output */
+static hansobrik_count_answer wrong(uint8_t f, uint8_t *o, size_t d)
+{
+    hansobrik_count_answer a = hansobrik_put_sync(f, o, d);
+    if (!a.refused)
+        ((volatile uint8_t *)o)[d] ^= 1;
+    return a;
+}
+#define hansobrik_put_sync wrong
+#elif FAULT == 5 /* a refused assembly forgets its marks */
+static hansobrik_add_answer wrong(uint8_t f, uint32_t k, BYTES, uint8_t n, uint8_t *o, size_t d)
+{
+    hansobrik_add_answer a = hansobrik_add_segment(f, k, p, c, n, o, d);
+    if (a.refused)
+        a.marks = 0;
+    return a;
+}
+#define hansobrik_add_segment wrong
+#elif FAULT == 6 /* a refused read gives a fresh record */
+static hansobrik_read_answer wrong(uint8_t f, hansobrik_state s, BYTES, uint8_t *o, size_t d)
+{
+    hansobrik_read_answer a = hansobrik_read(f, s, p, c, o, d);
+    if (a.refused)
+        a.state = hansobrik_fresh();
+    return a;
+}
+#define hansobrik_read wrong
+#elif FAULT == 7 /* 9 tested before 2 */
+static hansobrik_grid_answer wrong(uint8_t f, uint32_t k, BYTES, uint16_t x, uint16_t y)
+{
+    hansobrik_grid_answer a = hansobrik_mapping(f, k, p, c, x, y);
+    if (a.refused == 2 && k != HANSOBRIK_ALL_MARKS)
+        a.refused = 9;
+    return a;
+}
+#define hansobrik_mapping wrong
+#elif FAULT == 8 /* looks one byte behind the bytes */
+static hansobrik_bcd_answer wrong(BYTES, size_t n)
+{
+    if (c)
+        (void)((const volatile uint8_t *)p)[c];
+    return hansobrik_read_bcd(p, c, n);
+}
+#define hansobrik_read_bcd wrong
+#elif FAULT == 9 /* spare low bits of sector 9's data are set */
+static uint8_t wrong(uint8_t f, BYTES, uint8_t s, uint8_t *o, size_t d)
+{
+    uint8_t a = hansobrik_data(f, p, c, s, o, d);
+    if (!a && s == 9)
+        o[572] |= 1;
+    return a;
+}
+#define hansobrik_data wrong
+#elif FAULT == 10 /* a part that is not accepted is cleared */
+static hansobrik_strip_answer wrong(uint8_t f, BYTES, uint8_t *o, size_t d)
+{
+    hansobrik_strip_answer a = hansobrik_strip(f, p, c, o, d);
+    for (int i = 0; i < 4; i++)
+        if (!a.refused && a.vis[i])
+            memset(o + 9164 * i, 0, 9164);
+    return a;
+}
+#define hansobrik_strip wrong
+#elif FAULT == 11 /* the flag 255 is taken for 1 */
+static hansobrik_read_answer wrong(uint8_t f, hansobrik_state s, BYTES, uint8_t *o, size_t d)
+{
+    if (s.in_line == 255)
+        s.in_line = 1;
+    return hansobrik_read(f, s, p, c, o, d);
+}
+#define hansobrik_read wrong
+#elif FAULT == 12 /* of two sectors that are not accepted the lower one answers */
+static uint8_t wrong(uint8_t f, BYTES, uint8_t s, uint16_t *o, size_t d)
+{
+    uint8_t a = hansobrik_joined(f, p, c, s, o, d);
+    if (a == 5 || a == 6) {
+        uint8_t b = hansobrik_accepted(f, p, c, (uint8_t)(s + 8));
+        if (b)
+            return b;
+    }
+    return a;
+}
+#define hansobrik_joined wrong
+#elif FAULT == 13 /* places modulo 2^32 */
+static hansobrik_integer_answer wrong(uint8_t f, BYTES, size_t x, size_t n)
+{
+    return hansobrik_integer_field(f, p, c, x & 0xFFFFFFFF, n);
+}
+#define hansobrik_integer_field wrong
+#elif FAULT == 14 /* pixels over their width behind the last one taken are refused */
+static uint8_t wrong(uint8_t f, uint8_t *p, size_t c, uint8_t s, const uint16_t *o, size_t d)
+{
+    if (f - 1u < 2 && s == 12)
+        for (size_t i = 0; i < d; i++)
+            if (o[i] > 1023)
+                return 10;
+    return hansobrik_put_pixels_wide(f, p, c, s, o, d);
+}
+#define hansobrik_put_pixels_wide wrong
+#elif FAULT == 15 /* an empty piece tidies the record */
+static hansobrik_read_answer wrong(uint8_t f, hansobrik_state s, BYTES, uint8_t *o, size_t d)
+{
+    hansobrik_read_answer a = hansobrik_read(f, s, p, c, o, d);
+    if (!a.refused && c == 0 && !s.in_line)
+        a.state.position = 0;
+    return a;
+}
+#define hansobrik_read wrong
+#elif FAULT == 16 /* the buffer changes a byte early: waiting bits are put down */
+static hansobrik_read_answer wrong(uint8_t f, hansobrik_state s, BYTES, uint8_t *o, size_t d)
+{
+    hansobrik_read_answer a = hansobrik_read(f, s, p, c, o, d);
+    if (!a.refused && a.state.in_line && a.state.waiting_count == 7)
+        o[a.state.position / 8] = (uint8_t)(a.state.waiting << 1);
+    return a;
+}
+#define hansobrik_read wrong
+#elif FAULT == 17 /* a date of day 31 is refused */
+static hansobrik_date_answer wrong(uint8_t f, BYTES)
+{
+    hansobrik_date_answer a = hansobrik_date(f, p, c);
+    if (a.day == 31) {
+        memset(&a, 0, sizeof a);
+        a.refused = 7;
+    }
+    return a;
+}
+#define hansobrik_date wrong
+#elif FAULT == 18 /* one rounding too many */
+static hansobrik_orbit_answer wrong(uint8_t f, uint32_t k, BYTES)
+{
+    hansobrik_orbit_answer a = hansobrik_elements(f, k, p, c);
+    a.eccentricity = a.eccentricity * 10 / 10;
+    return a;
+}
+#define hansobrik_elements wrong
+#elif FAULT == 19 /* a refused call answers a count */
+static hansobrik_count_answer wrong(uint8_t f, BYTES, uint8_t *o, size_t d)
+{
+    hansobrik_count_answer a = hansobrik_write_line(f, p, c, o, d);
+    if (a.refused == 3)
+        a.count = 45606;
+    return a;
+}
+#define hansobrik_write_line wrong
+#elif FAULT == 20 /* the line that is only read changes */
+static hansobrik_name_answer wrong(uint8_t f, BYTES)
+{
+    hansobrik_name_answer a = hansobrik_scan_mode(f, p, c);
+    if (!a.refused)
+        ((uint8_t *)(uintptr_t)p)[44355] ^= 1;
+    return a;
+}
+#define hansobrik_scan_mode wrong
+#elif FAULT == 21 /* a truth value that is 2 */
+static hansobrik_real_answer wrong(BYTES, size_t n, uint8_t k)
+{
+    hansobrik_real_answer a = hansobrik_read_real(p, c, n, k);
+    unsigned char *b = (unsigned char *)&a.negative;
+    if (!a.refused && *b)
+        *b = 2;
+    return a;
+}
+#define hansobrik_read_real wrong
+#endif
