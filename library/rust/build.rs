@@ -10,10 +10,7 @@ fn main() {
     println!("cargo:rerun-if-changed=build.rs");
     println!("cargo:rerun-if-changed={}", archive.display());
     if !archive.is_file() {
-        panic!(
-            "{} is missing: `library/build` makes it",
-            archive.display()
-        );
+        panic!("{} is missing: `library/build` makes it", archive.display());
     }
     println!("cargo:rustc-link-search=native={}", folder.display());
     println!("cargo:rustc-link-lib=static=rack");
