@@ -33,21 +33,23 @@ left-refused : (c : SubCommutation) (b : Block) (m : Marks) (line block : List �
 left-refused (sub.Is s r) b m line block k e = placed-refused b m line s block k e
 left-refused (sub.Refused j) b m line block k e = refl
 
+-- a refused call leaves the block buffer
+pub block-refused : (f : ℕ) (m : Marks) (line : List ℕ) (n : ℕ) (block : List ℕ) (k : ℕ) → addedOf f m line n block ≡ Refused k → blockLeft f m line n block ≡ block
+unfolding addedOf blockLeft
+block-refused f m line n block k e = left-refused (carriedOf f m line n (length block)) (blockOf n) m line block k e
+
 -- a refused line changes nothing
 pub step-refused : (f n : ℕ) (a : Assembly) (l : List ℕ) → taken (addedOf f (a .marks) l n (a .block)) ≡ false → step f n a l ≡ a
 unfolding step
 step-refused f n a l = go (addedOf f (a .marks) l n (a .block)) refl
   where
-    left : (k : ℕ) → addedOf f (a .marks) l n (a .block) ≡ Refused k → blockLeft f (a .marks) l n (a .block) ≡ a .block
-    left k e = unfold addedOf blockLeft in left-refused (carriedOf f (a .marks) l n (length (a .block))) (blockOf n) (a .marks) l (a .block) k e
-
     made : Marks → List ℕ → Assembly
     made m block = record { marks = m; block = block }
 
     go : (x : Added) → addedOf f (a .marks) l n (a .block) ≡ x → taken x ≡ false
         → made (marksAfter (a .marks) (addedOf f (a .marks) l n (a .block))) (blockLeft f (a .marks) l n (a .block)) ≡ made (a .marks) (a .block)
     go (Is p) e t = absurd (false≢true (sym t))
-    go (Refused k) e t = ap₂ made (ap (marksAfter (a .marks)) e) (left k e)
+    go (Refused k) e t = ap₂ made (ap (marksAfter (a .marks)) e) (block-refused f (a .marks) l n (a .block) k e)
 
 -- ---- a run
 

@@ -24,18 +24,8 @@ use Rattle.sector_writer.specs.Written.{putDataLeft, putPixelsLeft}
 use Rattle.writer.specs.Wire as wire
 use Rattle.writer.specs.Wire.{wireBytes, writtenIn, outputIn}
 use Rattle.writer.specs.declared.Written.the-variants as written
-use Rattle.numbers.specs.Written as number
-use Rattle.numbers.specs.Written.{ifDone}
-use Rattle.numbers.specs.declared.Put.{Put}
-use Rattle.numbers.specs.declared.Put.the-variants as put
-use Rattle.document.specs.declared.segments.SubCommutation.{SubCommutation}
-use Rattle.document.specs.declared.segments.SubCommutation.the-variants as sub
-use Rattle.blocks.specs.Assembly.{sameBytes, segmentOf, storedAt, storedOf, placed, placedOf, placedLeft, carriedOf, addedBy, leftBy, addedOf, blockLeft}
-use Rattle.blocks.specs.Blocks.{blockOf}
-use Rattle.blocks.specs.Marking.{marked, withMark}
-use Rattle.blocks.specs.declared.block.Block.{Block}
-use Rattle.blocks.specs.declared.marks.Marks.{Marks}
-use Rattle.blocks.specs.declared.assembly.Added.the-variants as added
+use Rattle.numbers.proofs.Puts.{written-kept}
+use Rattle.blocks.proofs.Skips.{block-refused}
 use Rattle.demands.specs.Refusals.{Refusals}
 
 sync-kept : (k : Known) (out : List ℕ) (n : ℕ) → syncPutIn k out ≡ sync.Refused n → syncOutIn k out ≡ out
@@ -63,25 +53,8 @@ line-kept (known.Is f) line out n e = go (leb lineBytes (length line)) (leb (f .
     go true false e = refl
     go false b e = refl
 
-real-kept : (p : Put) (k : ℕ) (new old : List ℕ) → p ≡ put.Refused k → ifDone p new old ≡ old
-real-kept put.Done k new old e = let z : _≡_ {A = ℕ} 0 1 = cc in absurd (omega arith)
-real-kept (put.Refused n) k new old e = refl
-
-placed-kept : (b : Block) (m : Marks) (line : List ℕ) (s : ℕ) (block : List ℕ) (k : ℕ) → placedOf b m line s block ≡ added.Refused k → placedLeft b m line s block ≡ block
-unfolding placedOf placedLeft
-placed-kept b m line s block k = go (marked m s)
-  where
-    go : (t : Bool) → cond t (cond (sameBytes (segmentOf b line) (storedAt b block s)) (placed m s false) (added.Refused 8)) (placed (withMark m s) s true) ≡ added.Refused k
-        → cond t block (storedOf b line s block) ≡ block
-    go true e = refl
-    go false e = let z : _≡_ {A = ℕ} 0 1 = cc in absurd (omega arith)
-
-added-kept : (c : SubCommutation) (b : Block) (m : Marks) (line block : List ℕ) (k : ℕ) → addedBy c b m line block ≡ added.Refused k → leftBy c b m line block ≡ block
-added-kept (sub.Is s repeat) b m line block k e = placed-kept b m line s block k e
-added-kept (sub.Refused n) b m line block k e = refl
-
 pub refusals : Refusals
-unfolding syncPutOf syncOutOf dataLeft pixelsLeft joinedLeft strippedOf stripLeft putDataLeft putPixelsLeft wire.writtenOf wire.outputOf number.writtenOf addedOf blockLeft
+unfolding syncPutOf syncOutOf dataLeft pixelsLeft joinedLeft strippedOf stripLeft putDataLeft putPixelsLeft wire.writtenOf wire.outputOf
 refusals = record {
   put-sync = λ f out n e. sync-kept (formatOf f) out n e;
   read = refused-stays;
@@ -92,6 +65,6 @@ refusals = record {
   put-data = λ f line sector bytes r. kept-some _ _ _ r;
   put-pixels = λ lo hi f line sector ps r. kept-some _ _ _ r;
   write-line = λ f line out n e. line-kept (formatOf f) line out n e;
-  put-real = λ negative magnitude n m out k e. real-kept _ k _ out e;
-  add-segment = λ f m line number block k e. added-kept (carriedOf f m line number (length block)) (blockOf number) m line block k e;
+  put-real = written-kept;
+  add-segment = block-refused;
 }

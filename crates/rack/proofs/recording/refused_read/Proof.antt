@@ -1,11 +1,12 @@
 -- `rack::recording::refused_read` meets its contract. Assumes nothing.
+use mathlib.Core.Path.{refl}
 use Rattle.rack.specs.Recording.{refusedRead}
 use Rattle.rack.proofs.recording.refused_read.Statement.{statement}
 use Rattle.rack.proofs.recording.refused_read.Tie as tie
 
 returns : tie.Need-returns
 unfolding refusedRead
-returns c = cc
+returns c = refl
 
 pub refused-read-spec : {M : Type 1} → statement M
 refused-read-spec = tie.close (tie.spec returns)
