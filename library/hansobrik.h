@@ -120,6 +120,11 @@ typedef struct {
 
 typedef struct {
     uint8_t refused;
+    uint8_t answers[12];   /* sectors 1 to 12: 0 where the sector is accepted, else 5 or 6 */
+} hansobrik_twelve_answer;
+
+typedef struct {
+    uint8_t refused;
     uint8_t vis[4];        /* VIS1 to VIS4: 0, or 5 or 6 where the sector is not accepted and its part stays */
 } hansobrik_strip_answer;
 
@@ -235,6 +240,9 @@ hansobrik_count_answer hansobrik_write_line(uint8_t format, const uint8_t *line,
 
 /* Whether a sector is accepted: 0, or 1, 4, 2, 5, 6. */
 uint8_t hansobrik_accepted(uint8_t format, const uint8_t *line, size_t line_count, uint8_t sector);
+
+/* What hansobrik_accepted says of each of the twelve sectors; one call divides each sector once. 1, 2. */
+hansobrik_twelve_answer hansobrik_answers(uint8_t format, const uint8_t *line, size_t line_count);
 
 /* The filler bits of a sector that are set. 1, 4, 2. */
 hansobrik_count_answer hansobrik_filler(uint8_t format, const uint8_t *line, size_t line_count, uint8_t sector);

@@ -25,7 +25,7 @@ enum { CANARY = 64, PAGE = 65536, MOST_NUMBERS = 16, MOST_BUFFERS = 2, MOST_FIEL
 enum {
     FORMAT, STEPPED, STEP, PUT_SYNC,
     FRESH, READ, WRITE_LINE,
-    ACCEPTED, FILLER, DATA, PIXELS, PIXELS_WIDE, JOINED, STRIP, PUT_DATA, PUT_PIXELS, PUT_PIXELS_WIDE,
+    ACCEPTED, ANSWERS, FILLER, DATA, PIXELS, PIXELS_WIDE, JOINED, STRIP, PUT_DATA, PUT_PIXELS, PUT_PIXELS_WIDE,
     READ_INTEGER, READ_BCD, READ_REAL, READ_F64, PUT_REAL,
     SCAN_MODE, SCANNER_SELECT, LINE_NUMBERS, DATE, SUB_COMMUTATION,
     INTEGER_FIELD, BCD_FIELD, REAL_FIELD, F64_FIELD,
@@ -275,6 +275,13 @@ static void say_read(hansobrik_read_answer a)
     say_state(a.state);
 }
 
+static void say_twelve(hansobrik_twelve_answer a)
+{
+    say(a.refused);
+    for (size_t i = 0; i < HANSOBRIK_SECTORS; i++)
+        say(a.answers[i]);
+}
+
 static void say_strip(hansobrik_strip_answer a)
 {
     say(a.refused);
@@ -395,6 +402,7 @@ static void call(uint64_t which, size_t buffer_count)
     case WRITE_LINE: say_count(hansobrik_write_line(u8(0), seen(0), count(0), lent(1), count(1))); break;
 
     case ACCEPTED: say(hansobrik_accepted(u8(0), seen(0), count(0), u8(1))); break;
+    case ANSWERS: say_twelve(hansobrik_answers(u8(0), seen(0), count(0))); break;
     case FILLER: say_count(hansobrik_filler(u8(0), seen(0), count(0), u8(1))); break;
     case DATA: say(hansobrik_data(u8(0), seen(0), count(0), u8(1), lent(1), count(1))); break;
     case PIXELS: say(hansobrik_pixels(u8(0), seen(0), count(0), u8(1), lent(1), count(1))); break;

@@ -14,10 +14,11 @@ static uint8_t piece[4096];
 /* What is to be said of the line that stands in the buffer. */
 static void show(uint8_t format, unsigned long number)
 {
+    hansobrik_twelve_answer sectors = hansobrik_answers(format, line, sizeof line);
     unsigned good = 0;
     size_t filler = 0;
     for (uint8_t sector = 1; sector <= HANSOBRIK_SECTORS; sector++) {
-        if (hansobrik_accepted(format, line, sizeof line, sector) == 0)
+        if (sectors.answers[sector - 1] == 0)
             good++;
         filler += hansobrik_filler(format, line, sizeof line, sector).count;
     }

@@ -1,5 +1,5 @@
 /* The eight calls of hansobrik.h whose answers or records cross otherwise on this processor than on x86-64, for which the
- * library's module is lowered. `far_` are the module's own functions under another name; the other 31 calls are the same on
+ * library's modules are lowered. `far_` are the modules' own functions under another name; the other 31 calls are the same on
  * both and need nothing here. */
 #include "hansobrik.h"
 

@@ -1,4 +1,4 @@
-; Five calls of the library's module, made from their answers' addresses. The module is lowered for x86-64, where a record goes
+; Five calls of the library's modules, made from their answers' addresses. They are lowered for x86-64, where a record goes
 ; by value on the stack and a pair of a word and a double comes back in two kinds of register; only LLVM's own language can
 ; ask for the same on another processor.
 

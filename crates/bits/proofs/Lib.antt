@@ -12,3 +12,8 @@ pub mod Window
 pub mod Writes
 pub mod Packing
 pub mod Fields
+pub mod Same
+pub mod Stretches
+pub mod Distance
+pub mod Base
+pub mod Whole

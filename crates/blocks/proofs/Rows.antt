@@ -6,7 +6,6 @@ use native.Mathlib.Omega.{arith}
 use lib.Dec.{lit≤}
 use Rattle.formats.specs.Formats.{lineBytes}
 use Rattle.bits.proofs.Writes.{room}
-use Rattle.sectors.proofs.Rows.{Each, among}
 use Rattle.blocks.specs.declared.block.Block.{Block}
 use Rattle.blocks.specs.Blocks.{none, blocks, blockOf, segmentBytes, Sound}
 
@@ -21,38 +20,16 @@ no-block (suc (suc (suc (suc zero)))) a b c d e = absurd (d refl)
 no-block (suc (suc (suc (suc (suc zero))))) a b c d e = absurd (e refl)
 no-block (suc (suc (suc (suc (suc (suc n)))))) a b c d e = refl
 
--- 25 segments fill a block, whatever its number
-pub fills : (n : ℕ) → 25 * segmentBytes (blockOf n) ≡ blockOf n .size
-unfolding blockOf blocks
-fills zero = refl
-fills (suc zero) = refl
-fills (suc (suc zero)) = refl
-fills (suc (suc (suc zero))) = refl
-fills (suc (suc (suc (suc zero)))) = refl
-fills (suc (suc (suc (suc (suc zero))))) = refl
-fills (suc (suc (suc (suc (suc (suc n)))))) = refl
-
 -- WHAT HOLDS OF EVERY BLOCK
 pub sound : (n : ℕ) → 1 ≤ n → n ≤ 5 → Sound (blockOf n)
-unfolding Each blockOf blocks
-sound n lo hi =
-    among (λ n. Sound (blockOf n)) 1 5 n (
-      record { fills = refl; starts = lit≤ tt; ends = lit≤ tt },
-      (
-        record { fills = refl; starts = lit≤ tt; ends = lit≤ tt },
-        (
-          record { fills = refl; starts = lit≤ tt; ends = lit≤ tt },
-          (
-            record { fills = refl; starts = lit≤ tt; ends = lit≤ tt },
-            (
-              record { fills = refl; starts = lit≤ tt; ends = lit≤ tt },
-              tt,
-            ),
-          ),
-        ),
-      ),
-    )
-    lo (omega arith)
+unfolding blockOf blocks
+sound zero lo hi = absurd (omega arith)
+sound (suc zero) lo hi = record { fills = refl; starts = lit≤ tt; ends = lit≤ tt }
+sound (suc (suc zero)) lo hi = record { fills = refl; starts = lit≤ tt; ends = lit≤ tt }
+sound (suc (suc (suc zero))) lo hi = record { fills = refl; starts = lit≤ tt; ends = lit≤ tt }
+sound (suc (suc (suc (suc zero)))) lo hi = record { fills = refl; starts = lit≤ tt; ends = lit≤ tt }
+sound (suc (suc (suc (suc (suc zero))))) lo hi = record { fills = refl; starts = lit≤ tt; ends = lit≤ tt }
+sound (suc (suc (suc (suc (suc (suc n)))))) lo hi = absurd (omega arith)
 
 -- one after the other in the sector, without gap or overlap, from byte 197 to byte 2114
 pub Chain : ℕ → List Block → Type 0

@@ -1,12 +1,12 @@
 -- The five blocks, as document 01 has them: how many bytes each has, and the byte of the documentation sector, from 1 and
 -- with the ID, at which its segments start. Assumes nothing.
-use Prim.Native.Nat.{ℕ, _+_, _*_, _-_, _/_, _≤_}
+use Prim.Native.Nat.{ℕ, _+_, _*_, _/_, _≤_}
 use mathlib.Core.Path.{_≡_}
 use mathlib.Core.Bool.{_&&_}
 use mathlib.Core.List.{List, [], _∷_}
-use lib.Dec.{eqb, ltb}
-use lib.ListN.{getD, take, drop}
-use Rattle.sectors.specs.Asked.{first, when, numberRefusal}
+use lib.Dec.{eqb}
+use lib.ListN.{getD}
+use Rattle.refusals.specs.Refusals.{first, when, outsideOf}
 use Rattle.blocks.specs.declared.block.Block.{Block}
 
 abbrev pub row : ℕ → ℕ → Block
@@ -49,18 +49,6 @@ pub record Sound (b : Block) : Type 0 where
   pub starts : 1 ≤ b .first
   pub ends : b .first + segmentBytes b ≤ 2294
 
--- bytes of a block or sector from a place on, counted from 1
-unfoldable pub bytesAt : List ℕ → ℕ → ℕ → List ℕ
-bytesAt s place n = take n (drop (place - 1) s)
-
--- 4: a block or channel number is not one from 1 to most
-unfoldable pub servedOf : ℕ → ℕ → ℕ
-servedOf most n = numberRefusal 1 most n
-
 -- 4: no such block; calibration-2 in format 2
 unfoldable pub blockRefusal : ℕ → ℕ → ℕ
-blockRefusal f n = first (servedOf 5 n) (when (eqb n calibration2 && eqb f 2) 4)
-
--- 10: a level or grid point over the last one
-unfoldable pub rangeRefusal : ℕ → ℕ → ℕ
-rangeRefusal last n = when (ltb last n) 10
+blockRefusal f n = first (outsideOf 1 5 n 4) (when (eqb n calibration2 && eqb f 2) 4)

@@ -4,7 +4,7 @@ use Prim.Native.Nat.{ℕ, _-_, _/_, _%_, _^_}
 use mathlib.Core.Bool.{Bool, not}
 use lib.Dec.{eqb, leb}
 use lib.Bits.{bitOr}
-use Rattle.sectors.specs.Asked.{when}
+use Rattle.refusals.specs.Refusals.{when}
 use Rattle.blocks.specs.declared.marks.Marks.{Marks}
 
 -- an assembly that has no segment yet

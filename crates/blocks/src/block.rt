@@ -1,7 +1,6 @@
 // The five blocks: how many bytes each has, and where its segments stand in the documentation sector.
 ghost use mathlib.Core.Path.{_≡_};
-ghost use Rattle.blocks.specs.Blocks.{blockOf, servedOf, blockRefusal, rangeRefusal};
-use formats::refusal;
+ghost use Rattle.blocks.specs.Blocks.{blockOf, blockRefusal};
 
 pub const MAPPING: u8 = 1;
 
@@ -52,38 +51,18 @@ pub fn block_of(number: u8) -> Block
     }
 }
 
-// Inner. 4 where a block or channel number is not one from 1 to most; else 0.
-pub fn served(most: u8, n: u8) -> u8
-    ensures { λ r. ⌜ r ≡ servedOf most n ⌝ }
-{
-    if n < 1 {
-        return refusal::NUMBER;
-    }
-    if most < n {
-        return refusal::NUMBER;
-    }
-    0
-}
-
 // Inner. 4 where the block number is not one from 1 to 5, and for calibration-2 in format 2; else 0.
 pub fn block_refusal(format: u8, number: u8) -> u8
     ensures { λ r. ⌜ r ≡ blockRefusal format number ⌝ }
 {
-    let refused = served(5, number);
+    let refused = refusals::outside(1, 5, number as u64, refusals::NUMBER);
     if refused != 0 {
         return refused;
     }
     if number == CALIBRATION_2 {
         if format == 2 {
-            return refusal::NUMBER;
+            return refusals::NUMBER;
         }
     }
     0
-}
-
-// Inner. 10 where a level or grid point is over the last one; else 0.
-pub fn range_refusal(last: u16, n: u16) -> u8
-    ensures { λ r. ⌜ r ≡ rangeRefusal last n ⌝ }
-{
-    if last < n { refusal::RANGE } else { 0 }
 }

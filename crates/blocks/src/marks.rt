@@ -2,7 +2,6 @@
 ghost use mathlib.Core.Path.{_≡_};
 ghost use Rattle.blocks.specs.Marking.{noMarks, marked, withMark, marksRefusal, unfinishedRefusal};
 ghost use Prim.Native.Nat.{_≤_};
-use formats::refusal;
 
 // The marks of an assembly: bit s is set once segment s is stored. A record with a mark above 24 is impossible.
 pub struct Marks {
@@ -26,7 +25,7 @@ pub fn marks_refusal(marks: Marks) -> u8
     if marks.segments <= ALL {
         0
     } else {
-        refusal::STATE
+        refusals::STATE
     }
 }
 
@@ -37,7 +36,7 @@ pub fn unfinished_refusal(marks: Marks) -> u8
     if marks.segments == ALL {
         0
     } else {
-        refusal::UNFINISHED
+        refusals::UNFINISHED
     }
 }
 

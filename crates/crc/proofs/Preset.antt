@@ -1,17 +1,17 @@
 -- The start value, put on the first sixteen bits. Assumes nothing.
 use mathlib.Core.Path.{_≡_, refl, sym, ap, ap₂, _∙_}
 use mathlib.Core.List.{List, [], _∷_, _++_}
-use Prim.Native.Nat.{ℕ, zero, suc, _+_, _-_, _*_, _/_, _%_, _^_, _≤_, _<_}
-use native.Mathlib.Nat.{mod-eq-of-lt, mul-one, mul-assoc, pow-succ', pow-zero, div-one, add-mod, mod-mod}
+use Prim.Native.Nat.{ℕ, zero, suc, _+_, _-_, _*_, _/_, _%_, _^_, _<_}
+use native.Mathlib.Nat.{mod-eq-of-lt, mul-one, mul-assoc, pow-succ', div-one}
 use native.Mathlib.Numerals.{one-add}
 use native.Mathlib.Omega.{arith}
-use lib.ListN.{length, replicate}
-use lib.Pow.{shr-shr, shl-shr, field, mod-pow-add}
+use lib.ListN.{length}
+use lib.Pow.{shr-shr, shl-shr}
 use lib.Bits.{bitXor, xor-mod}
-use Rattle.bits.specs.Bits.{digits, mixed, numberOf, part, bitsOf, through, Below}
-use Rattle.bits.proofs.Digits.{length-digits, number-digits}
+use Rattle.bits.specs.Bits.{digits, mixed, numberOf, Below}
+use Rattle.bits.proofs.Digits.{number-digits}
 use Rattle.bits.proofs.Mixed.{digits-xor}
-use Rattle.crc.specs.Remainder.{next, preset}
+use Rattle.crc.specs.Remainder.{preset}
 
 pub length-preset : (start : ℕ) (bs : List ℕ) → length (preset start bs) ≡ length bs
 unfolding preset

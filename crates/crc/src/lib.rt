@@ -49,7 +49,7 @@ fn through(start: u16, s: &[u8], from: usize, count: usize) -> Running
     };
     let mut i: usize = 0;
     while i < count {
-        a = stepped(a, bits::bit_at(s, from + i));
+        a = stepped(a, slices::bit_at(s, from + i));
         i += 1;
     }
     a

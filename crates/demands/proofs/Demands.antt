@@ -1,34 +1,34 @@
 -- THE WAY ROUND: lines to the writer, its recording cut in any way, the reader. The lines that are handed out are the lines
 -- that were written, bit for bit (`there-and-back`), and the sectors of each say what was put into them (`data-there-and-back`,
 -- `pixels-there-and-back`). Assumes nothing.
-use mathlib.Core.List.{List, [], _∷_, map}
+use mathlib.Core.List.{List, map}
 use mathlib.Core.Logic.{_↔_}
-use mathlib.Core.Path.{_≡_, refl, sym, ap, _∙_}
-use Prim.Native.Nat.{ℕ, _+_, _*_, _^_, _≤_, _<_}
+use mathlib.Core.Path.{_≡_, sym, ap, _∙_}
+use Prim.Native.Nat.{ℕ, _+_, _^_, _≤_}
 use native.Mathlib.Omega.{arith}
 use lib.ListN.{length, take}
-use lib.Seq.{take-all}
-use Rattle.bits.specs.Bits.{packedOf, bitsOf, Below}
+use Rattle.bits.specs.Bits.{bitsOf, Below}
 use Rattle.bits.proofs.Bytes.{length-bits}
 use Rattle.bits.proofs.Fields.{packed-inj}
-use Rattle.formats.specs.Formats.{formatOf, informationBits, lineBytes}
+use Rattle.formats.specs.Formats.{formatOf, lineBytes, checkStart}
 use Rattle.formats.specs.declared.Format.{Format}
-use Rattle.formats.specs.declared.Known.the-variants.{Is}
-use Rattle.reader.specs.Call.{joined}
-use Rattle.reader.specs.Driven.{Driven, lineIn}
-use Rattle.reader.specs.Lines.{recorded}
-use Rattle.reader.specs.Records.{freshState}
-use Rattle.reader.proofs.Demand.{demand-3}
-use Rattle.sectors.specs.Asked.{checkStart}
-use Rattle.sectors.specs.Layout.{layoutOf, bytesOf}
+use Rattle.formats.specs.declared.FormatAnswer.the-variants.{Is}
+use Rattle.bits.specs.Bits.{inARow}
+use Rattle.cuts.specs.Driven.{Driven, lineIn}
+use Rattle.scan.specs.Lines.{recorded}
+use Rattle.records.specs.Records.{freshState}
+use Rattle.cuts.proofs.Demand.{demand-3}
+use Rattle.sectors.specs.Layout.{layoutOf}
 use Rattle.sectors.specs.Sector.{answerOf, fillerOf, dataOf, pixelsOf}
-use Rattle.sectors.proofs.First.{kept-none}
+use Rattle.refusals.proofs.Words.{kept-none}
 use Rattle.sectors.proofs.Table.{sound}
-use Rattle.sector_writer.specs.Written.{writtenOf, dataWritten, pixelsWritten, clearedOf, putDataNumber, putDataLeft, putPixelsNumber, putPixelsLeft}
-use Rattle.sector_writer.proofs.Back.{written-accepted, written-filler}
-use Rattle.sector_writer.proofs.Frames.{length-data-written, length-pixels-written}
-use Rattle.sector_writer.proofs.RoundTrip.{data-back, pixels-back}
-use Rattle.sector_writer.proofs.Writable.{Writable, data-writable, pixels-writable, pixels-fit}
+use Rattle.sector_frame.specs.Written.{sectorWritten, dataWritten, pixelsWritten}
+use Rattle.sector_rounds.specs.Cleared.{clearedOf}
+use Rattle.sector_writer.specs.Calls.{putDataAnswer, putDataLeft, putPixelsAnswer, putPixelsLeft}
+use Rattle.sector_rounds.proofs.Back.{written-accepted, written-filler}
+use Rattle.sector_frame.proofs.Frames.{length-data-written, length-pixels-written}
+use Rattle.sector_rounds.proofs.RoundTrip.{data-back, pixels-back}
+use Rattle.sector_writer.proofs.Writable.{data-writable, pixels-writable, pixels-fit}
 use Rattle.demands.specs.RoundTrip.{PlainLine, PlainLines, recordingOf}
 use Rattle.demands.proofs.RoundTrip.{round-trip}
 
@@ -36,11 +36,11 @@ use Rattle.demands.proofs.RoundTrip.{round-trip}
 -- full-size buffers: the lines handed out are exactly those lines, in order
 pub there-and-back : (n : ℕ) (f : Format) → formatOf n ≡ Is f
     → (lend : ℕ → List ℕ → List ℕ) → ((k : ℕ) (buf : List ℕ) → 44356 ≤ length buf → 44356 ≤ length (lend k buf)) → (buf : List ℕ) → 44356 ≤ length buf
-    → (ls : List (List ℕ)) → PlainLines ls → (ps : List (List ℕ)) → joined ps ≡ recordingOf f ls
+    → (ls : List (List ℕ)) → PlainLines ls → (ps : List (List ℕ)) → inARow ps ≡ recordingOf f ls
     → (out : List (List ℕ)) → Driven n lend 0 freshState buf ps out ↔ (out ≡ map bitsOf ls)
 there-and-back n f e lend long buf room ls plain ps cut out =
     let d = demand-3 n f e lend long buf room ps out in
-    let same : recorded (joined ps) ≡ map bitsOf ls = ap recorded cut ∙ round-trip n f e ls plain in
+    let same : recorded (inARow ps) ≡ map bitsOf ls = ap recorded cut ∙ round-trip n f e ls plain in
     (λ x. d .0 x ∙ same, λ y. d .1 (y ∙ sym same))
 
 -- the bits of a line in a buffer are those of a plain line only where its bytes are
@@ -54,7 +54,7 @@ bytes-back buf line b p room e =
 -- what stands in a buffer after the way round: the line that `put_data` or `put_pixels` left, of which sector k was written
 module _ (f k : ℕ) (line : List ℕ) where
   -- DATA: accepted, no filler set, and the data bytes again, spare bits cleared
-  pub data-there-and-back : (bytes buf : List ℕ) → Below (2 ^ 8) bytes → putDataNumber f (length line) k (length bytes) ≡ 0 → lineIn buf ≡ putDataLeft f line k bytes
+  pub data-there-and-back : (bytes buf : List ℕ) → Below (2 ^ 8) bytes → putDataAnswer f (length line) k (length bytes) ≡ 0 → lineIn buf ≡ putDataLeft f line k bytes
       → (answerOf (checkStart f) (layoutOf k) (lineIn buf) ≡ 0) × (fillerOf (layoutOf k) (lineIn buf) ≡ 0) × (dataOf (layoutOf k) (lineIn buf) ≡ clearedOf (layoutOf k) bytes)
   unfolding putDataLeft
   data-there-and-back bytes buf small e same =
@@ -64,7 +64,7 @@ module _ (f k : ℕ) (line : List ℕ) where
       let s = sound k (omega arith) (omega arith) in
       let long : layoutOf k .start + layoutOf k .bits ≤ length (bitsOf line) = omega (arith, length-bits line, w .long, s .inside) in
       let d : List ℕ = dataWritten (layoutOf k) bytes in
-      let written : lineIn buf ≡ writtenOf (checkStart f) (layoutOf k) d (bitsOf line) = same ∙ kept-none (putDataNumber f (length line) k (length bytes)) (bitsOf line) _ e in
+      let written : lineIn buf ≡ sectorWritten (checkStart f) (layoutOf k) d (bitsOf line) = same ∙ kept-none (putDataAnswer f (length line) k (length bytes)) (bitsOf line) _ e in
       let dl = length-data-written (layoutOf k) bytes (w .given-all) in (
         ap (answerOf (checkStart f) (layoutOf k)) written ∙ written-accepted (checkStart f) (layoutOf k) d (bitsOf line) s long dl,
         ap (fillerOf (layoutOf k)) written ∙ written-filler (checkStart f) (layoutOf k) d (bitsOf line) s long dl,
@@ -72,7 +72,7 @@ module _ (f k : ℕ) (line : List ℕ) where
       )
 
   -- PIXELS: accepted, no filler set, and the pixels again, at every width
-  pub pixels-there-and-back : (lo hi : ℕ) (ps buf : List ℕ) → 1 ≤ lo → hi ≤ 12 → putPixelsNumber lo hi f (length line) k ps ≡ 0 → lineIn buf ≡ putPixelsLeft lo hi f line k ps
+  pub pixels-there-and-back : (lo hi : ℕ) (ps buf : List ℕ) → 1 ≤ lo → hi ≤ 12 → putPixelsAnswer lo hi f (length line) k ps ≡ 0 → lineIn buf ≡ putPixelsLeft lo hi f line k ps
       → (answerOf (checkStart f) (layoutOf k) (lineIn buf) ≡ 0) × (fillerOf (layoutOf k) (lineIn buf) ≡ 0) × (pixelsOf (layoutOf k) (lineIn buf) ≡ take (layoutOf k .count) ps)
   unfolding putPixelsLeft
   pixels-there-and-back lo hi ps buf one twelve e same =
@@ -82,7 +82,7 @@ module _ (f k : ℕ) (line : List ℕ) where
       let s = sound k (omega arith) (omega arith) in
       let long : layoutOf k .start + layoutOf k .bits ≤ length (bitsOf line) = omega (arith, length-bits line, w .long, s .inside) in
       let d : List ℕ = pixelsWritten (layoutOf k) ps in
-      let written : lineIn buf ≡ writtenOf (checkStart f) (layoutOf k) d (bitsOf line) = same ∙ kept-none (putPixelsNumber lo hi f (length line) k ps) (bitsOf line) _ e in
+      let written : lineIn buf ≡ sectorWritten (checkStart f) (layoutOf k) d (bitsOf line) = same ∙ kept-none (putPixelsAnswer lo hi f (length line) k ps) (bitsOf line) _ e in
       let dl = length-pixels-written (layoutOf k) ps s (w .given-all) in (
         ap (answerOf (checkStart f) (layoutOf k)) written ∙ written-accepted (checkStart f) (layoutOf k) d (bitsOf line) s long dl,
         ap (fillerOf (layoutOf k)) written ∙ written-filler (checkStart f) (layoutOf k) d (bitsOf line) s long dl,

@@ -4,13 +4,14 @@ use mathlib.Core.Path.{_≡_, refl, sym, ap, _∙_}
 use Prim.Native.Nat.{ℕ}
 use lib.ListN.{take, replicate}
 use Rattle.bits.specs.Bits.{digits, packedOf, bitsOf, through, longer, inBase, numberOf, fieldsOf}
-use Rattle.blocks.proofs.Tables.{p12}
+use Rattle.calibration.proofs.Tables.{p12}
 use Rattle.numbers.proofs.Paper.{p8, p9, p10, p11, p11-refused}
 use Rattle.scramble.specs.Register.{newBit, nextRegister, scramblingBits}
 use Rattle.scramble.specs.Sync.{fifteenOnes}
-use Rattle.scramble.specs.Wire.{complemented, scrambled, wireOf, informationOf}
+use Rattle.scramble.specs.Wire.{complemented, scrambled, wireOf}
+use Rattle.wire.specs.Parts.{informationOf}
 use Rattle.sectors.specs.Layout.{sectors, layoutOf}
-use Rattle.sector_writer.proofs.Points.{p3-word, p3-accepted, p4, p5, p6, p7}
+use Rattle.sector_rounds.proofs.Points.{p3-word, p3-accepted, p4, p5, p6, p7}
 use Rattle.demands.specs.Edges.{docWord, Edges}
 
 p1 : fieldsOf 8 4 (scramblingBits 32 fifteenOnes) ≡ 0x00 ∷ 0x02 ∷ 0x00 ∷ 0x0c ∷ []

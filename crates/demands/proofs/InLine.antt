@@ -1,20 +1,19 @@
 -- What a buffer says of a sector is what the line in its first 44,356 bytes says: bytes past the line have no part in it.
 -- Assumes nothing.
-use mathlib.Core.List.{List, [], _∷_, _++_}
-use mathlib.Core.Path.{_≡_, refl, sym, ap, ap₂, _∙_}
+use mathlib.Core.List.{List, [], _∷_}
+use mathlib.Core.Path.{_≡_, refl, sym, ap, _∙_}
 use Prim.Native.Nat.{ℕ, zero, suc, _+_, _*_, _≤_, _<_}
 use native.Mathlib.Nat.{suc-inj, le-of-suc-le-suc, not-suc-le-zero, suc-ne-zero}
 use native.Mathlib.Omega.{arith}
 use lib.ListN.{length, getD, take, drop, length-drop, take-append-drop}
 use lib.Seq.{length-take-le, take-append-le, drop-append-le}
-use Rattle.bits.specs.Bits.{bitsOf, fieldsOf, setBits, numberOf}
+use Rattle.bits.specs.Bits.{bitsOf, setBits, stretch}
 use Rattle.bits.proofs.Bytes.{length-bits, bits-take}
-use Rattle.crc.specs.Remainder.{remainderOf}
 use Rattle.formats.specs.Formats.{informationBits, lineBytes}
-use Rattle.reader.specs.Driven.{lineIn}
+use Rattle.cuts.specs.Driven.{lineIn}
 use Rattle.sectors.specs.declared.layout.Layout.{Layout}
-use Rattle.sectors.specs.Layout.{Sound, dataAt, fillerAt, coveredBits, fillerBits, checkBits}
-use Rattle.sectors.specs.Sector.{stretch, coveredOf, idOf, answerOf, fillerOf, dataBitsOf, dataOf, pixelsOf, joinedPixel, joinedOf}
+use Rattle.sectors.specs.Layout.{Sound, dataAt, fillerAt, coveredBits, fillerBits}
+use Rattle.sectors.specs.Sector.{coveredOf, idOf, answerOf, fillerOf, dataBitsOf, dataOf, pixelsOf, joinedOf}
 
 -- ---- a stretch inside the first n bits
 

@@ -7,3 +7,4 @@ pub mod OneLine
 pub mod Opened
 pub mod Demands
 pub mod Refusals
+pub mod Orders

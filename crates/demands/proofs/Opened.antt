@@ -3,25 +3,23 @@
 use mathlib.Core.List.{List, [], _∷_, _++_, append-assoc}
 use mathlib.Core.Path.{_≡_, refl, sym, ap, ap₂, _∙_}
 use Prim.Native.Nat.{ℕ, zero, suc, _+_, _-_, _*_, _/_, _≤_, _<_}
-use native.Mathlib.Nat.{zero-add, suc-add, zero-mul, suc-mul, sub-zero}
+use native.Mathlib.Nat.{zero-add, suc-add, zero-mul, suc-mul}
 use native.Mathlib.Omega.{arith}
-use lib.Dec.{lit≤, lit<}
-use lib.ListN.{length, take, drop, length-append, take-append-drop}
-use lib.Seq.{take-append-le, drop-at, drop-drop}
-use Rattle.bits.specs.Bits.{packedOf, bitsOf, fieldsOf, numberOf, Below}
-use Rattle.bits.proofs.Below.{below-cons, below-nil}
+use lib.Dec.{lit<}
+use lib.ListN.{length, take, drop, take-append-drop}
+use lib.Seq.{drop-at, drop-drop}
+use Rattle.bits.specs.Bits.{bitsOf, fieldsOf, numberOf, Below}
 use Rattle.bits.proofs.Fields.{fields-packed}
 use Rattle.formats.specs.Formats.{formatOf, informationBits, lineBytes}
 use Rattle.formats.specs.declared.Format.{Format}
-use Rattle.formats.specs.declared.Known.the-variants.{Is}
+use Rattle.formats.specs.declared.FormatAnswer.the-variants.{Is}
 use Rattle.formats.proofs.Which.{parts}
 use Rattle.scramble.specs.Sync.{SYNC}
-use Rattle.scramble.specs.Wire.{informationOf, dummyOf, wireOf}
+use Rattle.wire.specs.Parts.{informationOf, dummyOf}
 use Rattle.scramble.proofs.Wire.{length-wire}
 use Rattle.fixed.proofs.Sync.{length-sync}
 use Rattle.writer.specs.Wire.{onWire, wireBytes}
 use Rattle.writer.proofs.Ways.{line-bits}
-use Rattle.demands.specs.Edges.{Edges}
 use Rattle.demands.proofs.Edges.{edges}
 
 -- the fields behind the first q, and the first k of them

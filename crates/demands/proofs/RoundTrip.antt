@@ -4,27 +4,28 @@
 use mathlib.Core.Bool.{Bool, true, false}
 use mathlib.Core.List.{List, [], _∷_, _++_, map, append-nil}
 use mathlib.Core.Logic.{_≢_}
-use mathlib.Core.Path.{_≡_, refl, sym, ap, ap₂, _∙_, subst}
-use Prim.Native.Nat.{ℕ, zero, suc, _+_, _-_, _*_, _≤_, _<_}
+use mathlib.Core.Path.{_≡_, refl, sym, ap, ap₂, _∙_}
+use Prim.Native.Nat.{ℕ, zero, _+_, _-_, _*_, _≤_, _<_}
 use native.Mathlib.Omega.{arith}
 use lib.Dec.{lit<}
 use lib.ListN.{length, take, drop, length-append, length-replicate}
 use lib.Seq.{take-all, drop-append-add}
-use Rattle.bits.specs.Bits.{packedOf, bitsOf, fieldsOf, Below}
+use Rattle.bits.specs.Bits.{packedOf, bitsOf}
 use Rattle.bits.proofs.Bytes.{length-bits, bits-below, bits-append}
 use Rattle.bits.proofs.Fields.{packed-fields}
 use Rattle.formats.specs.Formats.{formatOf, informationBits, lineBytes}
 use Rattle.formats.specs.declared.Format.{Format}
-use Rattle.formats.specs.declared.Known.the-variants.{Is}
+use Rattle.formats.specs.declared.FormatAnswer.the-variants.{Is}
 use Rattle.formats.proofs.Which.{either}
 use Rattle.scramble.specs.Sync.{SYNC, fifteenOnes, tail}
-use Rattle.scramble.specs.Wire.{wireOf, informationOf, lineOf, dummyOf}
-use Rattle.scramble.proofs.Wire.{length-wire, line-back}
+use Rattle.wire.specs.Parts.{informationOf, lineOf, dummyOf}
+use Rattle.scramble.proofs.Wire.{length-wire}
+use Rattle.wire.proofs.Wire.{line-back}
 use Rattle.fixed.specs.Written.{firstSearched, nextSearched}
 use Rattle.fixed.proofs.Sync.{length-sync, tail-ends}
 use Rattle.fixed.proofs.Windows.{earlier-not-tail}
-use Rattle.reader.specs.Lines.{windowBits, isTail, lines, recorded}
-use Rattle.reader.proofs.TailTest.{tail-only, tail-itself}
+use Rattle.scan.specs.Lines.{windowBits, isTail, lines, recorded}
+use Rattle.scan.proofs.TailTest.{tail-only, tail-itself}
 use Rattle.writer.specs.Wire.{onWire, wireBytes}
 use Rattle.writer.proofs.Ways.{wire-whole, on-wire-below}
 use Rattle.demands.specs.RoundTrip.{PlainLine, PlainLines, recordingOf}

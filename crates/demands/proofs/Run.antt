@@ -2,18 +2,17 @@
 -- rules that put a line on the wire and make it plain. Before the first line stands something quiet, which with SYNC behind
 -- it has no earlier window that is a tail; behind each line its dummy, which is quiet too. Assumes nothing.
 use mathlib.Core.Bool.{Bool, true, false, cond, _&&_}
-use mathlib.Core.List.{List, [], _∷_, _++_, append-assoc, append-nil}
+use mathlib.Core.List.{List, [], _∷_, _++_, append-assoc}
 use mathlib.Core.Option.{Option, none, some}
-use mathlib.Core.Path.{_≡_, refl, sym, ap, ap₂, _∙_}
+use mathlib.Core.Path.{_≡_, refl, ap, ap₂, _∙_}
 use Prim.Native.Nat.{ℕ, zero, suc, _+_, _≤_, _<_}
-use native.Mathlib.Nat.{zero-add, suc-add}
+use native.Mathlib.Nat.{zero-add}
 use native.Mathlib.Omega.{arith}
 use borrow.Author.Tests.{le-leb, lt-leb}
-use lib.Dec.{leb}
 use lib.ListN.{length, take, drop, length-append}
 use lib.Seq.{take-at, drop-at, take-append-le}
-use Rattle.reader.specs.Lines.{opens, afterTail, lineThen, linesOf}
-use Rattle.reader.proofs.Windows.{after-hit, after-less, linesOf-eq}
+use Rattle.scan.specs.Lines.{opens, afterTail, lineThen, linesOf}
+use Rattle.cuts.proofs.Windows.{after-hit, after-less, linesOf-eq}
 
 module _ (W : ℕ) (test : List ℕ → Bool) (some-bits : zero < W) where
   -- p earlier windows that are no tail, and then one that is

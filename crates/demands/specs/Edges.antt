@@ -4,22 +4,22 @@ use mathlib.Core.List.{List, [], _∷_, _++_}
 use mathlib.Core.Path.{_≡_}
 use Prim.Native.Nat.{ℕ, _+_}
 use lib.ListN.{take, replicate}
-use Rattle.bits.specs.Bits.{bitsOf, fieldsOf}
-use Rattle.blocks.specs.Entries.{temperatures, levelPlace}
+use Rattle.bits.specs.Bits.{bitsOf, fieldsOf, stretch}
+use Rattle.calibration.specs.Tables.{temperatures, levelPlace}
 use Rattle.crc.specs.Remainder.{checkWordOf}
-use Rattle.numbers.specs.Integers.{integerOf}
-use Rattle.numbers.specs.Decimals.{bcdOf}
-use Rattle.numbers.specs.Reals.{realOf}
+use Rattle.numbers.specs.Integers.{readIntegerAnswer}
+use Rattle.numbers.specs.Decimals.{readBcdAnswer}
+use Rattle.numbers.specs.Reals.{readRealAnswer}
 use Rattle.numbers.specs.declared.Integer.the-variants as integer
 use Rattle.numbers.specs.declared.Bcd.the-variants as bcd
 use Rattle.numbers.specs.declared.Real.the-variants as real
 use Rattle.scramble.specs.Register.{scramblingBits}
 use Rattle.scramble.specs.Sync.{fifteenOnes}
-use Rattle.scramble.specs.Wire.{informationOf}
-use Rattle.sectors.specs.Asked.{checkStart}
+use Rattle.wire.specs.Parts.{informationOf}
+use Rattle.formats.specs.Formats.{checkStart}
 use Rattle.sectors.specs.Layout.{layoutOf}
-use Rattle.sectors.specs.Sector.{stretch, answerOf, joinedOf}
-use Rattle.sector_writer.specs.Written.{headOf}
+use Rattle.sectors.specs.Sector.{answerOf, joinedOf}
+use Rattle.sector_frame.specs.Written.{headOf}
 
 -- the check word of a DOC sector, ID and data, in a format
 abbrev pub docWord : ℕ → List ℕ → ℕ
@@ -43,13 +43,13 @@ pub record Edges : Type 0 where
   -- upper 1, lower 0: 4
   pub P7 : joinedOf (1 ∷ []) (0 ∷ []) ≡ 4 ∷ []
   -- 00 00 07 B5 as R*4.2 is 1973 with 2 places
-  pub P8 : realOf 4 2 (0x00 ∷ 0x00 ∷ 0x07 ∷ 0xb5 ∷ []) ≡ real.Is (record { negative = false; magnitude = 1973; places = 2 })
+  pub P8 : readRealAnswer 4 2 (0x00 ∷ 0x00 ∷ 0x07 ∷ 0xb5 ∷ []) ≡ real.Is (record { negative = false; magnitude = 1973; places = 2 })
   -- 80 C8 10 42 as R*4.5 is minus 13111362 with 5 places
-  pub P9 : realOf 4 5 (0x80 ∷ 0xc8 ∷ 0x10 ∷ 0x42 ∷ []) ≡ real.Is (record { negative = true; magnitude = 13111362; places = 5 })
+  pub P9 : readRealAnswer 4 5 (0x80 ∷ 0xc8 ∷ 0x10 ∷ 0x42 ∷ []) ≡ real.Is (record { negative = true; magnitude = 13111362; places = 5 })
   -- 2D 9C as I*2 is 11676
-  pub P10 : integerOf 2 (0x2d ∷ 0x9c ∷ []) ≡ integer.Is 11676
+  pub P10 : readIntegerAnswer 2 (0x2d ∷ 0x9c ∷ []) ≡ integer.Is 11676
   -- 97 65 as BCD is 9765; 9A 65 is refusal 7
-  pub P11 : bcdOf 2 (0x97 ∷ 0x65 ∷ []) ≡ bcd.Is 9765
-  pub P11-refused : bcdOf 2 (0x9a ∷ 0x65 ∷ []) ≡ bcd.Refused 7
+  pub P11 : readBcdAnswer 2 (0x97 ∷ 0x65 ∷ []) ≡ bcd.Is 9765
+  pub P11-refused : readBcdAnswer 2 (0x9a ∷ 0x65 ∷ []) ≡ bcd.Refused 7
   -- IR1 level 1,023 is at bytes 5373-5376
   pub P12 : (levelPlace temperatures 1 1023 ≡ 5373) × (levelPlace temperatures 1 1023 + 3 ≡ 5376)

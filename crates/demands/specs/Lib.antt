@@ -1,3 +1,4 @@
 pub mod Edges
 pub mod RoundTrip
 pub mod Refusals
+pub mod Orders

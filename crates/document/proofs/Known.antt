@@ -6,23 +6,20 @@ use Prim.Native.Nat.{ℕ, _-_, _≤_}
 use native.Mathlib.Omega.{arith}
 use lib.ListN.{length, take, drop, length-drop}
 use lib.Seq.{take-all}
-use Rattle.formats.specs.Formats.{lineBytes}
+use Rattle.refusals.proofs.Words.{none-first}
+use Rattle.formats.specs.Formats.{lineBytes, checkStart}
 use Rattle.bits.specs.Bits.{bitsOf}
-use Rattle.sectors.specs.Asked.{first, lineRefusal, checkStart}
+use Rattle.sectors.specs.Asked.{lineRefusal}
 use Rattle.sectors.specs.Layout.{layoutOf}
 use Rattle.sectors.specs.Sector.{answerOf}
-use Rattle.sectors.specs.Calls.{acceptedOf}
-use Rattle.sectors.proofs.First.{none-first, admitted}
+use Rattle.sectors.specs.Calls.{acceptedAnswer}
+use Rattle.sectors.proofs.Admitted.{admitted}
 use Rattle.document.specs.Place.{docFrom, docRefusal}
 
 pub doc-long : (f : ℕ) (line : List ℕ) → docRefusal f line ≡ 0 → lineBytes ≤ length line
-unfolding docRefusal acceptedOf
+unfolding docRefusal acceptedAnswer
 doc-long f line e =
     admitted f 1 12 1 (length line) (none-first (lineRefusal f 1 12 1 (length line)) (answerOf (checkStart f) (layoutOf 1) (bitsOf line)) e) .long
-
--- the same where more is tested behind it
-pub more-long : (f : ℕ) (line : List ℕ) (more : ℕ) → first (docRefusal f line) more ≡ 0 → lineBytes ≤ length line
-more-long f line more e = doc-long f line (none-first (docRefusal f line) more e)
 
 -- the slice from a place to the line's end
 pub from-place : (line : List ℕ) (p : ℕ) → take (length line - (p - 1)) (drop (p - 1) line) ≡ docFrom line p

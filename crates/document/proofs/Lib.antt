@@ -1,9 +1,5 @@
 pub mod Known
-pub mod Given
 pub mod Named
-pub mod Position
-pub mod Served
 pub mod Numbers
 pub mod Sector
-pub mod Digits
 pub mod Edges

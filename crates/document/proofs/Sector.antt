@@ -7,12 +7,12 @@ use native.Mathlib.Omega.{arith}
 use lib.ListN.{length, getD, take, drop, length-drop}
 use lib.Seq.{length-take-le, getD-take, getD-drop}
 use Rattle.formats.specs.Formats.{lineBytes}
-use Rattle.bits.specs.Bits.{bitsOf, fieldsOf, Below}
+use Rattle.bits.specs.Bits.{bitsOf, stretch, fieldsOf, Below}
 use Rattle.bits.proofs.Below.{below-take, below-drop}
 use Rattle.bits.proofs.Bytes.{bits-drop, bits-take}
 use Rattle.bits.proofs.Fields.{fields-packed}
 use Rattle.sectors.specs.Layout.{sectors, layoutOf}
-use Rattle.sectors.specs.Sector.{stretch, dataBitsOf, dataOf}
+use Rattle.sectors.specs.Sector.{dataBitsOf, dataOf}
 use Rattle.document.specs.Place.{docByte, docFrom}
 
 pub doc-data : (line : List ℕ) → Below 256 line → lineBytes ≤ length line → dataOf (layoutOf 1) (bitsOf line) ≡ take 2291 (docFrom line 3)

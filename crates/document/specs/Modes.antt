@@ -4,6 +4,7 @@ use Prim.Native.Nat.{ℕ}
 use mathlib.Core.Bool.{cond}
 use mathlib.Core.List.{List}
 use lib.Dec.{eqb}
+use Rattle.refusals.specs.Refusals.{answered}
 use Rattle.document.specs.declared.modes.ScanMode.{ScanMode}
 use Rattle.document.specs.declared.modes.ScanMode.the-variants as mode
 use Rattle.document.specs.declared.modes.Scan.{Scan}
@@ -12,7 +13,6 @@ use Rattle.document.specs.declared.modes.Mirror.{Mirror}
 use Rattle.document.specs.declared.modes.Mirror.the-variants as mirror
 use Rattle.document.specs.declared.modes.Scanner.{Scanner}
 use Rattle.document.specs.declared.modes.Scanner.the-variants as scanner
-use Rattle.document.specs.Answered.{answered}
 use Rattle.document.specs.Place.{docByte, docRefusal}
 
 -- ---- scan mode
@@ -41,8 +41,8 @@ scanByte (scan.Is m) = modeByte m
 scanByte (scan.Refused k) = 0
 
 -- 1, 2, 5, 6
-unfoldable pub scanOf : ℕ → List ℕ → Scan
-scanOf f line = answered scan.Refused (docRefusal f line) (scan.Is (modeOf (docByte line 3)))
+unfoldable pub scanModeAnswer : ℕ → List ℕ → Scan
+scanModeAnswer f line = answered scan.Refused (docRefusal f line) (scan.Is (modeOf (docByte line 3)))
 
 -- ---- scanner select
 
@@ -72,5 +72,5 @@ scannerByte (scanner.Is m) = mirrorByte m
 scannerByte (scanner.Refused k) = 0
 
 -- 1, 2, 5, 6
-unfoldable pub scannerOf : ℕ → List ℕ → Scanner
-scannerOf f line = answered scanner.Refused (docRefusal f line) (scanner.Is (mirrorOf (docByte line 67)))
+unfoldable pub scannerSelectAnswer : ℕ → List ℕ → Scanner
+scannerSelectAnswer f line = answered scanner.Refused (docRefusal f line) (scanner.Is (mirrorOf (docByte line 67)))

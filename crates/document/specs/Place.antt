@@ -3,7 +3,8 @@
 use Prim.Native.Nat.{ℕ, _-_}
 use mathlib.Core.List.{List}
 use lib.ListN.{getD, drop}
-use Rattle.sectors.specs.Calls.{acceptedOf}
+use Rattle.bits.specs.Bits.{stretch}
+use Rattle.sectors.specs.Calls.{acceptedAnswer}
 
 -- ID and data end here
 abbrev pub docBytes : ℕ
@@ -17,6 +18,10 @@ docByte line p = getD line (p - 1) 0
 unfoldable pub docFrom : List ℕ → ℕ → List ℕ
 docFrom line p = drop (p - 1) line
 
+-- the n bytes from a place on
+unfoldable pub docPart : List ℕ → ℕ → ℕ → List ℕ
+docPart line p n = stretch line (p - 1) n
+
 -- 1, 2, 5, 6: what refuses every call, before it looks at a byte of the sector
 unfoldable pub docRefusal : ℕ → List ℕ → ℕ
-docRefusal f line = acceptedOf f line 1
+docRefusal f line = acceptedAnswer f line 1

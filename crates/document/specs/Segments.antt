@@ -3,10 +3,9 @@ use Prim.Native.Nat.{ℕ}
 use mathlib.Core.Bool.{not, _||_}
 use mathlib.Core.List.{List}
 use lib.Dec.{eqb, ltb}
-use Rattle.sectors.specs.Asked.{first, when}
+use Rattle.refusals.specs.Refusals.{first, when, answered}
 use Rattle.document.specs.declared.segments.SubCommutation.{SubCommutation}
 use Rattle.document.specs.declared.segments.SubCommutation.the-variants.{Is, Refused}
-use Rattle.document.specs.Answered.{answered}
 use Rattle.document.specs.Place.{docByte, docRefusal}
 
 -- the paper's number and values for each answer
@@ -27,8 +26,8 @@ unfoldable pub segmentRefusal : ℕ → ℕ → ℕ → ℕ → ℕ
 segmentRefusal before segment between repeat = when (not (eqb before 0) || (ltb 24 segment || (not (eqb between 0) || ltb 7 repeat))) 7
 
 -- 1, 2, 5, 6, 7
-unfoldable pub subRefusal : ℕ → List ℕ → ℕ
-subRefusal f line = first (docRefusal f line) (segmentRefusal (docByte line 193) (docByte line 194) (docByte line 195) (docByte line 196))
+unfoldable pub subCommutationRefusal : ℕ → List ℕ → ℕ
+subCommutationRefusal f line = first (docRefusal f line) (segmentRefusal (docByte line 193) (docByte line 194) (docByte line 195) (docByte line 196))
 
-unfoldable pub subCommutationOf : ℕ → List ℕ → SubCommutation
-subCommutationOf f line = answered Refused (subRefusal f line) (Is (docByte line 194) (docByte line 196))
+unfoldable pub subCommutationAnswer : ℕ → List ℕ → SubCommutation
+subCommutationAnswer f line = answered Refused (subCommutationRefusal f line) (Is (docByte line 194) (docByte line 196))

@@ -1,9 +1,8 @@
 // The sub-commutation bytes: which of the 25 segments of each block a line carries, and on which of its eight lines.
 ghost use mathlib.Core.Path.{_≡_};
-ghost use Rattle.document.specs.Segments.{segmentRefusal, subRefusal, subCommutationOf};
+ghost use Rattle.document.specs.Segments.{segmentRefusal, subCommutationAnswer};
 use crate::place::doc_byte;
 use crate::place::doc_refusal;
-use formats::refusal;
 
 // The answer to the sub-commutation bytes: the segment from 0 to 24, and the repeat from 0 to 7.
 pub enum SubCommutation {
@@ -16,46 +15,36 @@ fn segment_refusal(before: u8, segment: u8, between: u8, repeat: u8) -> u8
     ensures { λ r. ⌜ r ≡ segmentRefusal before segment between repeat ⌝ }
 {
     if before != 0 {
-        return refusal::FIELD;
+        return refusals::FIELD;
     }
     if 24 < segment {
-        return refusal::FIELD;
+        return refusals::FIELD;
     }
     if between != 0 {
-        return refusal::FIELD;
+        return refusals::FIELD;
     }
     if 7 < repeat {
-        return refusal::FIELD;
+        return refusals::FIELD;
     }
     0
 }
 
-// What refuses the sub-commutation bytes: 1, 2, 5, 6, 7; else 0.
-fn sub_refusal(format: u8, line: &[u8]) -> u8
-    ensures { λ r. ⌜ r ≡ subRefusal format (now (line .entry)) ⌝ }
+// Segment and repeat of a line, sector bytes 193 to 196; refused with 1, 2, 5, 6, 7.
+pub fn sub_commutation(format: u8, line: &[u8]) -> SubCommutation
+    ensures { λ r. ⌜ r ≡ subCommutationAnswer format (now (line .entry)) ⌝ }
 {
     let refused = doc_refusal(format, line);
     if refused != 0 {
-        return refused;
-    }
-    segment_refusal(
-        doc_byte(line, 193),
-        doc_byte(line, 194),
-        doc_byte(line, 195),
-        doc_byte(line, 196),
-    )
-}
-
-// Segment and repeat of a line, sector bytes 193 to 196; refused with 1, 2, 5, 6, 7.
-pub fn sub_commutation(format: u8, line: &[u8]) -> SubCommutation
-    ensures { λ r. ⌜ r ≡ subCommutationOf format (now (line .entry)) ⌝ }
-{
-    let refused = sub_refusal(format, line);
-    if refused != 0 {
         return SubCommutation::Refused(refused);
     }
+    let segment = doc_byte(line, 194);
+    let repeat = doc_byte(line, 196);
+    let wrong = segment_refusal(doc_byte(line, 193), segment, doc_byte(line, 195), repeat);
+    if wrong != 0 {
+        return SubCommutation::Refused(wrong);
+    }
     SubCommutation::Is {
-        segment: doc_byte(line, 194),
-        repeat: doc_byte(line, 196),
+        segment: segment,
+        repeat: repeat,
     }
 }

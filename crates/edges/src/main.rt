@@ -7,7 +7,7 @@ ghost use Prim.Native.Nat.{_≤_, _<_};
 ghost use lib.ListN.{length};
 use libc::STDOUT_FILENO;
 use reader::Answer;
-use reader::State;
+use records::State;
 
 // The bytes that a recording here can have, and those of a line.
 const SPACE: usize = 89000;
@@ -54,10 +54,10 @@ fn noise(rec: &mut [u8; SPACE], v: u8) {
 fn put_tail(rec: &mut [u8; SPACE], at: usize)
     requires { ⌜ at ≤ 711000 ⌝ }
 {
-    bits::put_field(rec, at, 16, 0x4bbb);
-    bits::put_field(rec, at + 16, 16, 0xb999);
-    bits::put_field(rec, at + 32, 16, 0x9555);
-    bits::put_field(rec, at + 48, 16, 0x7fff);
+    slice_writer::put_field(rec, at, 16, 0x4bbb);
+    slice_writer::put_field(rec, at + 16, 16, 0xb999);
+    slice_writer::put_field(rec, at + 32, 16, 0x9555);
+    slice_writer::put_field(rec, at + 48, 16, 0x7fff);
 }
 
 // The end of a piece of at most size bytes.
@@ -116,7 +116,7 @@ fn turn(r: Run, rec: &[u8], size: usize, line: &mut [u8; LINE]) -> Run
 fn drive(rec: &[u8], size: usize, line: &mut [u8; LINE]) -> Run {
     let mut r = Run {
         at: 0,
-        state: reader::fresh(),
+        state: records::fresh(),
         lines: 0,
         ended: 0,
         unread: 0,
@@ -277,14 +277,14 @@ fn offsets() {
 fn nothing() {
     let none = [0u8; 1];
     let mut line = [0u8; LINE];
-    let a = reader::read(1, reader::fresh(), &none[..0], &mut line);
+    let a = reader::read(1, records::fresh(), &none[..0], &mut line);
     number(b"empty piece: taken ", wide(taken(a)));
     say(b"\n");
 }
 
 // Refusals, both sides of each.
 fn refusals() {
-    let s = reader::fresh();
+    let s = records::fresh();
     asked(b"format 0", 0, s);
     asked(b"format 1", 1, s);
     asked(b"format 2", 2, s);

@@ -1,14 +1,14 @@
 // What the documentation sector of one line says.
 use crate::say;
-use document::dates::Dated;
-use document::dates::Moment;
-use document::lines::LineNumbers;
-use document::lines::Lines;
 use document::modes::Mirror;
 use document::modes::Scan;
 use document::modes::ScanMode;
 use document::modes::Scanner;
 use document::segments::SubCommutation;
+use document_stamps::dates::Dated;
+use document_stamps::lines::LineNumbers;
+use document_stamps::lines::Numbered;
+use stamps::dates::DateTime;
 
 // The byte of a scan mode.
 fn mode_byte(m: ScanMode) -> u8 {
@@ -58,13 +58,13 @@ fn say_numbers(n: LineNumbers) {
 }
 
 fn numbers(format: u8, plain: &[u8]) {
-    match document::lines::line_numbers(format, plain) {
-        Lines::Is(n) => say_numbers(n),
-        Lines::Refused(k) => say::refused(b" set", k),
+    match document_stamps::lines::line_numbers(format, plain) {
+        Numbered::Is(n) => say_numbers(n),
+        Numbered::Refused(k) => say::refused(b" set", k),
     }
 }
 
-fn say_date(d: Moment) {
+fn say_date(d: DateTime) {
     say::number(b" date ", say::short(d.year));
     say::number(b" ", say::byte(d.month));
     say::number(b" ", say::byte(d.day));
@@ -75,7 +75,7 @@ fn say_date(d: Moment) {
 }
 
 fn date(format: u8, plain: &[u8]) {
-    match document::dates::date(format, plain) {
+    match document_stamps::dates::date(format, plain) {
         Dated::Is(d) => say_date(d),
         Dated::Refused(k) => say::refused(b" date", k),
     }

@@ -3,16 +3,16 @@
 // of the blocks and some entries of the finished ones. A call that is refused is written as `refused K`.
 //
 // What the numbers are is proved of `document` and `blocks`; of its own functions it is proved that they are safe and end.
-mod desk;
-mod entries;
+mod five;
 mod line;
 mod say;
+mod tables;
 
 fn main() {
     let mut plain = [0u8; 44356];
     let mut piece = [0u8; player::PIECE];
     let mut room = [0u8; 47950];
-    let mut marks = desk::empty();
+    let mut marks = five::empty();
     let mut p = player::opened();
     if !p.more {
         return;
@@ -25,10 +25,10 @@ fn main() {
         if p.whole {
             lines = std::num::wrapping_add_u64(lines, 1);
             line::show(p.format, lines, &plain);
-            marks = desk::add(p.format, marks, &plain, &mut room);
+            marks = five::add(p.format, marks, &plain, &mut room);
         }
     }
-    desk::show(p.format, marks, &room);
+    five::show(p.format, marks, &room);
     say::number(b"total ", lines);
     say::text(b"\n");
 }

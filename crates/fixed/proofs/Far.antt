@@ -7,7 +7,7 @@ use Prim.Native.Nat.{ℕ, zero, suc, _+_, _≤_, _<_, zero-le, suc-le-suc}
 use native.Mathlib.Nat.{le-of-suc-le-suc, not-suc-le-zero, zero-add, suc-add}
 use lib.Dec.{T, eqb, eqb-refl}
 use lib.ListN.{length, take, drop}
-use Rattle.fixed.specs.Apart.{apart}
+use Rattle.bits.specs.Bits.{apart}
 use Rattle.fixed.proofs.Every.{first, second}
 
 -- the sequence starts with one that differs from t in d places or more

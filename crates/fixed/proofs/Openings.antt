@@ -1,6 +1,6 @@
 -- What SYNC opens and ends with, and what the opening that 000 prints for 10,000 bits is. Read as
 -- SYNC's first fifteen bits it leads to no fifteen ones. It is the fifteen bits before SYNC's first. Assumes nothing.
-use mathlib.Core.Path.{_≡_, refl, sym, ap, _∙_, subst}
+use mathlib.Core.Path.{_≡_, refl, sym, ap, _∙_}
 use mathlib.Core.Logic.{_≢_}
 use mathlib.Core.List.{List, [], _∷_}
 use Prim.Native.Nat.{ℕ, _+_}
@@ -8,9 +8,9 @@ use native.Mathlib.Omega.{arith}
 use lib.Dec.{lit≤}
 use lib.ListN.{take, drop, getD}
 use Rattle.bits.specs.Bits.{numberOf, inBase, through, longer}
-use Rattle.scramble.specs.Register.{newBit, nextRegister, registerAfter, scramblingBits}
+use Rattle.scramble.specs.Register.{newBit, nextRegister, scramblingBits}
 use Rattle.scramble.specs.Sync.{IsSync, earlierRegister, registerBefore, fifteenOnes, SYNC}
-use Rattle.scramble.proofs.Opening.{before-1}
+use Rattle.sync.proofs.Opening.{before-1}
 use Rattle.fixed.proofs.Sync.{sync-only, sync-ends}
 
 -- the 20,000-bit SYNC opens 010001001100001, as 000 prints for FY-2B

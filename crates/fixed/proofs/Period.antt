@@ -1,10 +1,10 @@
 -- The register's period is 32,767, so it can be told where it stands after the information bits. Assumes nothing.
 use mathlib.Core.Path.{_≡_, refl, sym, ap, _∙_}
-use Prim.Native.Nat.{ℕ, zero, suc, _+_, _*_}
+use Prim.Native.Nat.{ℕ, zero, suc, _*_}
 use native.Mathlib.Nat.{suc-mul}
 use Rattle.scramble.specs.Register.{newBit, nextRegister, registerAfter}
 use Rattle.scramble.specs.Sync.{fifteenOnes}
-use Rattle.scramble.proofs.Steps.{after-add}
+use Rattle.wire.proofs.Rule.{after-add}
 
 -- the same steps, as antt computes them without piling up calls: the register is read before the next step
 run : ℕ → ℕ → ℕ

@@ -1,8 +1,7 @@
 -- The sweeps over the fixed bits, computed: 21,152 windows that begin in format 2's dummy, and 19,936 that begin in its
 -- SYNC, of which format 1's is the second half. Assumes nothing.
 use mathlib.Core.Path.{_≡_, refl}
-use mathlib.Core.List.{List, [], _∷_, _++_}
-use Prim.Native.Nat.{ℕ}
+use mathlib.Core.List.{[], _∷_, _++_}
 use lib.Dec.{T}
 use lib.ListN.{take, drop}
 use Rattle.scramble.specs.Register.{newBit, nextRegister, scramblingBits}

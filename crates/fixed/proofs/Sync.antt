@@ -11,7 +11,7 @@ use Rattle.bits.specs.Bits.{Below}
 use Rattle.scramble.specs.Register.{newBit, nextRegister, scramblingBits}
 use Rattle.scramble.specs.Sync.{KeepsRule, IsSync, earlierRegister, registerBefore, fifteenOnes, SYNC, tail}
 use Rattle.scramble.proofs.Steps.{newBit-lt, length-scrambling, scrambling-below}
-use Rattle.scramble.proofs.Rule.{scrambling-rule}
+use Rattle.wire.proofs.Rule.{scrambling-rule}
 use Rattle.fixed.proofs.Back.{before-more, before-lt, next-earlier}
 
 pub length-sync : (n : ℕ) → length (SYNC n) ≡ n

@@ -9,14 +9,14 @@ use native.Mathlib.Omega.{arith}
 use lib.Dec.{T}
 use lib.ListN.{length, take, drop, replicate}
 use lib.Seq.{drop-drop}
-use Rattle.formats.specs.Formats.{svissr, hirid, formatOf, informationBits}
+use Rattle.formats.specs.Formats.{svissr, hirid, formatOf}
 use Rattle.formats.specs.declared.Format.{Format}
-use Rattle.formats.specs.declared.Known.the-variants.{Is}
+use Rattle.formats.specs.declared.FormatAnswer.the-variants.{Is}
 use Rattle.formats.proofs.Which.{either}
-use Rattle.scramble.specs.Register.{registerAfter}
-use Rattle.scramble.specs.Sync.{fifteenOnes, SYNC, tail}
-use Rattle.scramble.specs.Wire.{complemented, scrambled, wireOf, dummyOf}
-use Rattle.fixed.specs.Apart.{apart}
+use Rattle.scramble.specs.Sync.{SYNC, tail}
+use Rattle.scramble.specs.Wire.{complemented, scrambled, wireOf}
+use Rattle.wire.specs.Parts.{dummyOf}
+use Rattle.bits.specs.Bits.{apart}
 use Rattle.fixed.specs.Written.{firstSearched, nextSearched, dummyFrom}
 use Rattle.fixed.proofs.Far.{clear, clear-apart, clear-join, apart-other}
 use Rattle.fixed.proofs.Sync.{length-sync, sync-ends}

@@ -6,7 +6,8 @@ use Prim.Native.Nat.{ℕ}
 use Rattle.formats.specs.Formats.{informationBits}
 use Rattle.formats.specs.declared.Format.{Format}
 use Rattle.scramble.specs.Sync.{SYNC}
-use Rattle.scramble.specs.Wire.{wireOf, dummyOf}
+use Rattle.scramble.specs.Wire.{wireOf}
+use Rattle.wire.specs.Parts.{dummyOf}
 
 unfoldable pub firstSearched : Format → List ℕ
 firstSearched f = SYNC (f .sync)

@@ -1,14 +1,14 @@
 -- There are two formats, and in both every part of a line is a whole number of bytes. Assumes nothing.
-use mathlib.Core.Path.{_≡_, refl, sym, subst}
-use mathlib.Core.Bool.{Bool, true, false, cond}
+use mathlib.Core.Path.{_≡_, refl, sym, ap, _∙_, subst}
+use mathlib.Core.Bool.{Bool, true, false, cond, not, _&&_}
 use mathlib.Core.Logic.{_⊎_, inl, inr, ⊎-elim}
 use Prim.Native.Nat.{ℕ, _+_, _*_, _/_, _<_}
 use native.Mathlib.Omega.{arith}
 use lib.Dec.{eqb, lit<}
-use Rattle.formats.specs.Formats.{svissr, hirid, formatOf, informationBits, lineBytes}
+use Rattle.refusals.specs.Refusals.{when}
+use Rattle.formats.specs.Formats.{svissr, hirid, formatOf, unknown, formatNumber, formatRefusal, formatIn, namedBy, checkStart, informationBits, lineBytes}
 use Rattle.formats.specs.declared.Format.{Format}
-use Rattle.formats.specs.declared.Known.{Known}
-use Rattle.formats.specs.declared.Known.the-variants.{Is, Refused}
+use Rattle.formats.specs.declared.FormatAnswer.the-variants.{Is, Refused}
 
 -- a number that names a format names one of the two
 pub which : (n : ℕ) (f : Format) → formatOf n ≡ Is f → (f ≡ svissr) ⊎ (f ≡ hirid)
@@ -39,3 +39,65 @@ either P p q n f e = ⊎-elim (λ (h : f ≡ svissr). subst P (sym h) p) (λ (h 
 
 pub parts : (n : ℕ) (f : Format) → formatOf n ≡ Is f → Parts f
 parts = either Parts parts-1 parts-2
+
+-- ---- a number that is not refused
+
+pub record Named (n : ℕ) : Type 0 where
+  pub format : Format
+  pub is : formatOf n ≡ Is format
+
+pub named : (n : ℕ) → formatRefusal n ≡ 0 → Named n
+unfolding formatRefusal
+named n = go (eqb n 1) (eqb n 2) refl
+  where
+    go : (a b : Bool) → formatOf n ≡ cond a (Is svissr) (cond b (Is hirid) (Refused 1)) → formatNumber (formatOf n) ≡ 0 → Named n
+    go true b is e = record { format = svissr; is = is }
+    go false true is e = record { format = hirid; is = is }
+    go false false is e = absurd (let z : _≡_ {A = ℕ} 1 0 = sym (ap formatNumber is) ∙ e in let w : ⊥ = omega arith in w)
+
+pub is-known : (n : ℕ) (f : Format) → formatOf n ≡ Is f → formatRefusal n ≡ 0
+unfolding formatRefusal
+is-known n f e = ap formatNumber e
+
+pub is-unknown : (n k : ℕ) → formatOf n ≡ Refused k → formatRefusal n ≡ k
+unfolding formatRefusal
+is-unknown n k e = ap formatNumber e
+
+-- 1 exactly where the number names none
+pub refused-when : (n : ℕ) → formatRefusal n ≡ when (unknown n) 1
+unfolding formatRefusal unknown when
+refused-when n = go (eqb n 1) (eqb n 2)
+  where
+    go : (a b : Bool) → formatNumber (cond a (Is svissr) (cond b (Is hirid) (Refused 1))) ≡ when (not a && not b) 1
+    go true b = refl
+    go false true = refl
+    go false false = refl
+
+pub named-by : (n : ℕ) (f : Format) → formatOf n ≡ Is f → namedBy n ≡ f
+unfolding namedBy
+named-by n f e = ap formatIn e
+
+-- a number that names none is refused
+pub some-number : (n k : ℕ) → formatOf n ≡ Refused k → k ≡ 0 → ⊥
+some-number n k = go (eqb n 1) (eqb n 2)
+  where
+    go : (a b : Bool) → cond a (Is svissr) (cond b (Is hirid) (Refused 1)) ≡ Refused k → k ≡ 0 → ⊥
+    go true b e z = let w : _≡_ {A = ℕ} 0 1 = cc in let x : ⊥ = omega arith in x
+    go false true e z = let w : _≡_ {A = ℕ} 0 1 = cc in let x : ⊥ = omega arith in x
+    go false false e z = let w : _≡_ {A = ℕ} 1 0 = cc in let x : ⊥ = omega arith in x
+
+-- ---- the start value of the check
+
+pub start-is : (n : ℕ) (f : Format) → formatOf n ≡ Is f → checkStart n ≡ f .«check_start»
+unfolding checkStart
+start-is n f e = ap (λ (g : Format). g .«check_start») (named-by n f e)
+
+-- 0 in both formats, and where there is none
+pub start-zero : (n : ℕ) → checkStart n ≡ 0
+unfolding checkStart namedBy
+start-zero n = go (eqb n 1) (eqb n 2)
+  where
+    go : (a b : Bool) → formatIn (cond a (Is svissr) (cond b (Is hirid) (Refused 1))) .«check_start» ≡ 0
+    go true b = refl
+    go false true = refl
+    go false false = refl

@@ -1,12 +1,12 @@
--- The lengths of one line on the wire in the two formats, as the table of document 01 has them, and the format of a
--- number. Assumes nothing.
-use Prim.Native.Nat.{ℕ, _+_, _*_, _/_}
-use mathlib.Core.Bool.{Bool, true, false, cond}
+-- The two formats as document 01 has them, with the lengths of one line on the wire and the start value of the check, and the
+-- format of a number. Assumes nothing.
+use Prim.Native.Nat.{ℕ, _+_, _*_}
+use mathlib.Core.Bool.{Bool, cond, not, _&&_}
 use mathlib.Core.Path.{_≡_, refl}
 use lib.Dec.{eqb}
 use Rattle.formats.specs.declared.Format.{Format}
-use Rattle.formats.specs.declared.Known.{Known}
-use Rattle.formats.specs.declared.Known.the-variants.{Is, Refused}
+use Rattle.formats.specs.declared.FormatAnswer.{FormatAnswer}
+use Rattle.formats.specs.declared.FormatAnswer.the-variants.{Is, Refused}
 
 -- the bits of the plain line, and its bytes
 abbrev pub informationBits : ℕ
@@ -17,15 +17,43 @@ lineBytes = 44356
 
 -- format 1, S-VISSR 2.0
 abbrev pub svissr : Format
-svissr = record { number = 1; sync = 10000; information = 354848; dummy = 0; bytes = 45606 }
+svissr = record { number = 1; sync = 10000; information = 354848; dummy = 0; bytes = 45606; «check_start» = 0 }
 
 -- format 2, HiRID
 abbrev pub hirid : Format
-hirid = record { number = 2; sync = 20000; information = 354848; dummy = 21152; bytes = 49500 }
+hirid = record { number = 2; sync = 20000; information = 354848; dummy = 21152; bytes = 49500; «check_start» = 0 }
 
 -- the format of a number; 1 refuses every other
-abbrev pub formatOf : ℕ → Known
+abbrev pub formatOf : ℕ → FormatAnswer
 formatOf n = cond (eqb n 1) (Is svissr) (cond (eqb n 2) (Is hirid) (Refused 1))
+
+-- the number names none
+unfoldable pub unknown : ℕ → Bool
+unknown n = not (eqb n 1) && not (eqb n 2)
+
+-- the paper's number for each answer to a format number
+abbrev pub formatNumber : FormatAnswer → ℕ
+formatNumber (Is f) = 0
+formatNumber (Refused n) = n
+
+-- 1: the format is neither 1 nor 2
+unfoldable pub formatRefusal : ℕ → ℕ
+formatRefusal n = formatNumber (formatOf n)
+
+-- the format that a number names; one without bits where it names none
+abbrev pub noFormat : Format
+noFormat = record { number = 0; sync = 0; information = 0; dummy = 0; bytes = 0; «check_start» = 0 }
+
+abbrev pub formatIn : FormatAnswer → Format
+formatIn (Is f) = f
+formatIn (Refused n) = noFormat
+
+unfoldable pub namedBy : ℕ → Format
+namedBy n = formatIn (formatOf n)
+
+-- the start value of the check: that of the format
+unfoldable pub checkStart : ℕ → ℕ
+checkStart n = namedBy n .«check_start»
 
 -- the three parts fill the bytes
 abbrev pub FillsBytes : Format → Type 0

@@ -1,23 +1,23 @@
-// The two formats of a recording, S-VISSR 2.0 and HiRID, with the lengths of one line on the wire as their named
-// constants; and, in `refusal`, the number of every refusal.
+// The two formats of a recording, S-VISSR 2.0 and HiRID, with what belongs to a format as its named constants: the lengths of
+// one line on the wire, and the start value of the check.
 //
 // The contracts cite `specs/Formats.antt`. No public function has a `requires`.
 ghost use mathlib.Core.Path.{_≡_};
-ghost use Rattle.formats.specs.Formats.{svissr, hirid, formatOf};
+ghost use Rattle.formats.specs.Formats.{svissr, hirid, formatOf, formatRefusal, checkStart};
 
-pub mod refusal;
-
-// A format: its number, the bits of the three parts of one line on the wire, and the bytes of them all.
+// A format: its number, the bits of the three parts of one line on the wire, the bytes of them all, and the start value of
+// the check of its sectors.
 pub struct Format {
     pub number: u8,
     pub sync: usize,
     pub information: usize,
     pub dummy: usize,
     pub bytes: usize,
+    pub check_start: u16,
 }
 
 // The answer to a format number.
-pub enum Known {
+pub enum FormatAnswer {
     Is(Format),
     Refused(u8),
 }
@@ -43,6 +43,11 @@ impl Format {
     pub const BYTES_2: usize = (Self::SYNC_BITS_2 + Self::INFORMATION_BITS + Self::DUMMY_BITS_2)
         / 8;
 
+    // No preset: the sources name only the polynomial.
+    pub const CHECK_START_1: u16 = 0;
+
+    pub const CHECK_START_2: u16 = 0;
+
     // S-VISSR 2.0, format 1.
     pub fn svissr() -> Self
         ensures { λ r. ⌜ r ≡ svissr ⌝ }
@@ -53,6 +58,7 @@ impl Format {
             information: Self::INFORMATION_BITS,
             dummy: Self::DUMMY_BITS_1,
             bytes: Self::BYTES_1,
+            check_start: Self::CHECK_START_1,
         }
     }
 
@@ -66,17 +72,38 @@ impl Format {
             information: Self::INFORMATION_BITS,
             dummy: Self::DUMMY_BITS_2,
             bytes: Self::BYTES_2,
+            check_start: Self::CHECK_START_2,
         }
     }
 
     // The format of a number; refused with 1 where the number is neither 1 nor 2.
-    pub fn of(number: u8) -> Known
+    pub fn of(number: u8) -> FormatAnswer
         ensures { λ r. ⌜ r ≡ formatOf number ⌝ }
     {
         match number {
-            1 => Known::Is(Format::svissr()),
-            2 => Known::Is(Format::hirid()),
-            _ => Known::Refused(refusal::FORMAT),
+            1 => FormatAnswer::Is(Format::svissr()),
+            2 => FormatAnswer::Is(Format::hirid()),
+            _ => FormatAnswer::Refused(refusals::FORMAT),
         }
+    }
+}
+
+// Inner. 1 where the format is neither 1 nor 2; else 0.
+pub fn format_refusal(format: u8) -> u8
+    ensures { λ r. ⌜ r ≡ formatRefusal format ⌝ }
+{
+    match Format::of(format) {
+        FormatAnswer::Is(_) => 0,
+        FormatAnswer::Refused(n) => n,
+    }
+}
+
+// Inner. The start value of the check in a format; 0 where the number names none.
+pub fn check_start(format: u8) -> u16
+    ensures { λ r. ⌜ r ≡ checkStart format ⌝ }
+{
+    match Format::of(format) {
+        FormatAnswer::Is(f) => f.check_start,
+        FormatAnswer::Refused(_) => 0,
     }
 }

@@ -8,15 +8,27 @@ ghost use Prim.Native.Nat.{_≤_};
 use libc::STDOUT_FILENO;
 use sectors::check::Counted;
 
-// 1 for a sector that is accepted.
-fn good(format: u8, line: &[u8], sector: u8) -> u64
+// 1 for the answer of a sector that is accepted.
+fn good(answer: u8) -> u64
     ensures { λ r. ⌜ r ≤ 1 ⌝ }
 {
-    if sectors::check::accepted(format, line, sector) == 0 {
-        1
-    } else {
-        0
+    if answer == 0 { 1 } else { 0 }
+}
+
+// How many of the twelve sectors are accepted, each divided once.
+fn goods(format: u8, line: &[u8]) -> u64 {
+    let twelve = sectors::check::answers(format, line);
+    if twelve.refused != 0 {
+        return 0;
     }
+    let answers = twelve.answers;
+    let mut n: u64 = 0;
+    let mut i: usize = 0;
+    while i < 12 {
+        n = std::num::wrapping_add_u64(n, good(answers[i]));
+        i += 1;
+    }
+    n
 }
 
 // The filler bits set in a sector.
@@ -36,18 +48,16 @@ fn filler(format: u8, line: &[u8], sector: u8) -> u64
 
 // Writes what is to be said of a line.
 fn show(format: u8, number: u64, line: &[u8]) {
-    let mut goods: u64 = 0;
     let mut fillers: u64 = 0;
     let mut sector: u8 = 1;
     while sector <= 12 {
-        goods = std::num::wrapping_add_u64(goods, good(format, line, sector));
         fillers = std::num::wrapping_add_u64(fillers, filler(format, line, sector));
         sector += 1;
     }
     io::write_all(STDOUT_FILENO, b"line ");
     io::print_decimal(STDOUT_FILENO, number);
     io::write_all(STDOUT_FILENO, b" good ");
-    io::print_decimal(STDOUT_FILENO, goods);
+    io::print_decimal(STDOUT_FILENO, goods(format, line));
     io::write_all(STDOUT_FILENO, b" filler ");
     io::print_decimal(STDOUT_FILENO, fillers);
     io::write_all(STDOUT_FILENO, b"\n");

@@ -1,9 +1,6 @@
 pub mod Ranges
 pub mod Table
-pub mod Base
 pub mod Nines
 pub mod Signs
 pub mod Answers
-pub mod Puts
-pub mod RoundTrip
 pub mod Paper

@@ -11,7 +11,7 @@ use lib.Seq.{drop-drop}
 use borrow.Author.Tests.{lt-ltb, le-ltb, ltb-false}
 use Rattle.bits.specs.Bits.{numberOf, fieldsOf, Below}
 use Rattle.numbers.specs.Decimals.{someOver9}
-use Rattle.numbers.proofs.Ranges.{or-false}
+use Rattle.refusals.proofs.Words.{or-false}
 
 pub none-over : (ds : List ℕ) → Below 10 ds → someOver9 ds ≡ false
 unfolding someOver9 Below

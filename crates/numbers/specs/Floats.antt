@@ -2,7 +2,7 @@
 -- last, on a zero too. Assumes nothing.
 use mathlib.Core.Bool.{Bool, true, false}
 use mathlib.Core.List.{List}
-use Prim.Native.Nat.{ℕ, _^_}
+use Prim.Native.Nat.{ℕ, _^_, _<_}
 use lib.IntN.{pos}
 use lib.Ieee as Ieee
 use lib.Ieee.{binary64}
@@ -11,7 +11,7 @@ use Rattle.numbers.specs.declared.Real.{Real}
 use Rattle.numbers.specs.declared.Real.the-variants as real
 use Rattle.numbers.specs.declared.Float.{Float}
 use Rattle.numbers.specs.declared.Float.the-variants.{Is, Refused}
-use Rattle.numbers.specs.Reals.{realOf}
+use Rattle.numbers.specs.Reals.{readRealAnswer}
 
 -- the one division
 abbrev pub quotient : ℕ → ℕ → Ieee.Float
@@ -24,10 +24,22 @@ signed false x = x
 unfoldable pub valueOf : R → Ieee.Float
 valueOf r = signed (r .negative) (quotient (r .magnitude) (r .places))
 
+-- the zero of an answer that is refused
+abbrev pub zeroFloat : Ieee.Float
+zeroFloat = Ieee.fin false 0 (pos 0)
+
+-- both sides of the division are exact in f64; every R*n.m is such a number
+abbrev pub Fits : R → Type 0
+Fits r = (r .magnitude < 2 ^ 47) × (r .places < 16)
+
+unfoldable pub FitsIn : Real → Type 0
+FitsIn (real.Is r) = Fits r
+FitsIn (real.Refused k) = Unit {0}
+
 -- a refusal stays the refusal that it is
 unfoldable pub asFloat : Real → Float
 asFloat (real.Is r) = Is (valueOf r)
 asFloat (real.Refused k) = Refused k
 
-unfoldable pub floatOf : ℕ → ℕ → List ℕ → Float
-floatOf n m bytes = asFloat (realOf n m bytes)
+unfoldable pub readF64Answer : ℕ → ℕ → List ℕ → Float
+readF64Answer n m bytes = asFloat (readRealAnswer n m bytes)

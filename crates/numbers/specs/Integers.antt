@@ -1,20 +1,16 @@
 -- I*n: an unsigned number in n bytes, n 1 to 4, high byte first. The bytes may go on behind it.
 -- Assumes nothing.
-use mathlib.Core.Bool.{Bool, _||_, cond}
 use mathlib.Core.List.{List}
 use Prim.Native.Nat.{ℕ}
-use lib.Dec.{ltb}
 use lib.ListN.{length, take}
+use Rattle.refusals.specs.Refusals.{first, answered, shortOf, outsideOf}
 use Rattle.bits.specs.Bits.{inBase}
 use Rattle.numbers.specs.declared.Integer.{Integer}
 use Rattle.numbers.specs.declared.Integer.the-variants.{Is, Refused}
 
--- n is not one of low to high
-unfoldable pub outside : ℕ → ℕ → ℕ → Bool
-outside low high n = ltb n low || ltb high n
+-- 10, 2
+unfoldable pub readIntegerRefusal : ℕ → ℕ → ℕ
+readIntegerRefusal n given = first (outsideOf 1 4 n 10) (shortOf given n 2)
 
-unfoldable pub integerOf : ℕ → List ℕ → Integer
-integerOf n bytes =
-    cond (outside 1 4 n) (Refused 10)
-    (cond (ltb (length bytes) n) (Refused 2)
-    (Is (inBase 256 (take n bytes))))
+unfoldable pub readIntegerAnswer : ℕ → List ℕ → Integer
+readIntegerAnswer n bytes = answered Refused (readIntegerRefusal n (length bytes)) (Is (inBase 256 (take n bytes)))

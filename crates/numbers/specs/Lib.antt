@@ -2,4 +2,3 @@ pub mod Integers
 pub mod Decimals
 pub mod Reals
 pub mod Floats
-pub mod Written

@@ -1,10 +1,11 @@
 -- R*n.m, n 4 or 6, m 0 to 15: a sign bit, a magnitude in the other 31 or 47 bits, the first bit the highest, and m decimal
 -- places. A set sign bit over a magnitude of 0 is a negative zero, and stays one. Assumes nothing.
-use mathlib.Core.Bool.{Bool, true, false, not, _&&_, _||_, cond}
+use mathlib.Core.Bool.{Bool, true, false, not, _&&_, _||_}
 use mathlib.Core.List.{List}
 use Prim.Native.Nat.{ℕ, _*_, _-_}
 use lib.Dec.{eqb, ltb}
 use lib.ListN.{length, getD}
+use Rattle.refusals.specs.Refusals.{first, when, answered, shortOf}
 use Rattle.bits.specs.Bits.{bitsOf, part, numberOf}
 use Rattle.numbers.specs.declared.R.{R}
 use Rattle.numbers.specs.declared.Real.{Real}
@@ -13,6 +14,10 @@ use Rattle.numbers.specs.declared.Real.the-variants.{Is, Refused}
 -- no R*n.m of the paper
 unfoldable pub noReal : ℕ → ℕ → Bool
 noReal n m = (not (eqb n 4) && not (eqb n 6)) || ltb 15 m
+
+-- 10
+unfoldable pub formRefusal : ℕ → ℕ → ℕ
+formRefusal n m = when (noReal n m) 10
 
 -- the sign bit is set for a negative number
 abbrev pub signBit : Bool → ℕ
@@ -31,8 +36,9 @@ realIn n m bytes = record {
   places = m;
 }
 
-unfoldable pub realOf : ℕ → ℕ → List ℕ → Real
-realOf n m bytes =
-    cond (noReal n m) (Refused 10)
-    (cond (ltb (length bytes) n) (Refused 2)
-    (Is (realIn n m bytes)))
+-- 10, 2
+unfoldable pub readRealRefusal : ℕ → ℕ → ℕ → ℕ
+readRealRefusal n m given = first (formRefusal n m) (shortOf given n 2)
+
+unfoldable pub readRealAnswer : ℕ → ℕ → List ℕ → Real
+readRealAnswer n m bytes = answered Refused (readRealRefusal n m (length bytes)) (Is (realIn n m bytes))

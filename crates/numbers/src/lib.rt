@@ -1,22 +1,21 @@
 // The numbers of the documentation fields, read from the first bytes of a slice: I*n, BCD*n and R*n.m, and R*n.m in f64
-// too; and the bytes of R*n.m written.
+// too.
 //
-// The contracts cite `specs/Integers.antt` (`integerOf`), `specs/Decimals.antt` (`bcdOf`), `specs/Reals.antt` (`realOf`),
-// `specs/Floats.antt` (`floatOf`) and `specs/Written.antt` (`putOf`, `writtenOf`). Each is an equation for the answer and
-// for every lent byte, for every input; refusals are tested in the paper's order.
+// The contracts cite `specs/Integers.antt` (`readIntegerAnswer`), `specs/Decimals.antt` (`readBcdAnswer`),
+// `specs/Reals.antt` (`readRealAnswer`) and `specs/Floats.antt` (`readF64Answer`). Each is an equation for the answer, for
+// every input; refusals are tested in the paper's order.
 //
-// No public function has a `requires`.
+// No public function has a `requires`, but those marked "Inner.", which the crates above use.
 ghost use mathlib.Core.Path.{_≡_};
-ghost use mathlib.Core.List.{_++_};
 ghost use Prim.Native.Nat.{_+_, _-_, _*_, _^_, _≤_, _<_};
-ghost use lib.ListN.{length, getD, take, drop};
-ghost use Rattle.bits.specs.Bits.{bitsOf, digits, inBase, fieldsOf};
-ghost use Rattle.numbers.specs.Integers.{outside, integerOf};
-ghost use Rattle.numbers.specs.Decimals.{decimalOf, bcdOf};
-ghost use Rattle.numbers.specs.Reals.{noReal, signBit, realOf};
-ghost use Rattle.numbers.specs.Floats.{valueOf, floatOf};
-ghost use Rattle.numbers.specs.Written.{putOf, writtenOf};
-use formats::refusal;
+ghost use lib.ListN.{length};
+ghost use Rattle.bits.specs.Bits.{bitsOf, fieldsOf};
+ghost use Rattle.refusals.specs.Refusals.{first, outsideOf, shortOf};
+ghost use Rattle.numbers.specs.Integers.{readIntegerAnswer};
+ghost use Rattle.numbers.specs.Decimals.{decimalOf, readBcdAnswer};
+ghost use Rattle.numbers.specs.Reals.{formRefusal, signBit, readRealAnswer};
+ghost use Rattle.numbers.specs.Floats.{Fits, FitsIn, valueOf, asFloat, readF64Answer};
+use octets::whole;
 
 // The answer to I*n.
 pub enum Integer {
@@ -49,57 +48,23 @@ pub enum Float {
     Refused(u8),
 }
 
-// The answer to a write.
-pub enum Put {
-    Done,
-    Refused(u8),
-}
-
-// Inner. Whether n lies outside low to high.
-pub fn outside(low: usize, high: usize, n: usize) -> bool
-    ensures { λ r. ⌜ r ≡ outside low high n ⌝ }
+// What refuses a number of n bytes, of 1 to high: 10, then 2 for fewer than n bytes; else 0.
+fn size_refusal(high: u64, n: usize, given: usize) -> u8
+    ensures { λ r. ⌜ r ≡ first (outsideOf 1 high n 10) (shortOf given n 2) ⌝ }
 {
-    n < low || high < n
-}
-
-// Inner. Whether R*n.m is no form of the paper: n is neither 4 nor 6, or m is over 15.
-pub fn no_real(n: usize, m: u8) -> bool
-    ensures { λ r. ⌜ r ≡ noReal n m ⌝ }
-{
-    (n != 4 && n != 6) || 15 < m
-}
-
-// A byte as a number.
-fn byte_at(bytes: &[u8], i: usize) -> u64
-    requires { ⌜ i < length (now bytes) ⌝ }
-    ensures { λ r. ⌜ (r ≡ getD (now (bytes .entry)) i 0) × (r < 256) ⌝ }
-{
-    bytes[i] as u64
-}
-
-// The unsigned number that the first n bytes write, high byte first: at most eight, so that it fits.
-fn whole(bytes: &[u8], n: usize) -> u64
-    requires { ⌜ (n ≤ length (now bytes)) × (n ≤ 8) ⌝ }
-    ensures { λ r. ⌜ (r ≡ inBase 256 (take n (now (bytes .entry)))) × (r < 256 ^ n) ⌝ }
-{
-    let mut a: u64 = 0;
-    let mut left = n;
-    while 0 < left {
-        a = a * 256 + byte_at(bytes, n - left);
-        left -= 1;
-    }
-    a
+    refusals::first(
+        refusals::outside(1, high, n as u64, refusals::RANGE),
+        refusals::short(given, n, refusals::SHORT_INPUT),
+    )
 }
 
 // I*n: 10 for n outside 1 to 4, 2 for fewer than n bytes.
 pub fn read_integer(bytes: &[u8], n: usize) -> Integer
-    ensures { λ r. ⌜ r ≡ integerOf n (now (bytes .entry)) ⌝ }
+    ensures { λ r. ⌜ r ≡ readIntegerAnswer n (now (bytes .entry)) ⌝ }
 {
-    if outside(1, 4, n) {
-        return Integer::Refused(refusal::RANGE);
-    }
-    if bytes.len() < n {
-        return Integer::Refused(refusal::SHORT_INPUT);
+    let refused = size_refusal(4, n, bytes.len());
+    if refused != 0 {
+        return Integer::Refused(refused);
     }
     Integer::Is(whole(bytes, n) as u32)
 }
@@ -112,9 +77,9 @@ fn decimal(bytes: &[u8], count: usize) -> Bcd
     let mut a: u64 = 0;
     let mut i: usize = 0;
     while i < count {
-        let d = bits::field(bytes, i * 4, 4);
+        let d = slices::field(bytes, i * 4, 4);
         if 9 < d {
-            return Bcd::Refused(refusal::FIELD);
+            return Bcd::Refused(refusals::FIELD);
         }
         a = a * 10 + d as u64;
         i += 1;
@@ -124,19 +89,17 @@ fn decimal(bytes: &[u8], count: usize) -> Bcd
 
 // BCD*n: 10 for n outside 1 to 6, 2 for fewer than n bytes, 7 for a digit over 9 in those n.
 pub fn read_bcd(bytes: &[u8], n: usize) -> Bcd
-    ensures { λ r. ⌜ r ≡ bcdOf n (now (bytes .entry)) ⌝ }
+    ensures { λ r. ⌜ r ≡ readBcdAnswer n (now (bytes .entry)) ⌝ }
 {
-    if outside(1, 6, n) {
-        return Bcd::Refused(refusal::RANGE);
-    }
-    if bytes.len() < n {
-        return Bcd::Refused(refusal::SHORT_INPUT);
+    let refused = size_refusal(6, n, bytes.len());
+    if refused != 0 {
+        return Bcd::Refused(refused);
     }
     decimal(bytes, 2 * n)
 }
 
-// What the sign bit weighs: the first bit of n bytes.
-fn sign_weight(n: usize) -> u64
+// Inner. What the sign bit weighs: the first bit of n bytes.
+pub fn sign_weight(n: usize) -> u64
     requires { ⌜ (1 ≤ n) × (n ≤ 8) ⌝ }
     ensures { λ r. ⌜ r ≡ 2 ^ (8 * n - 1) ⌝ }
 {
@@ -163,15 +126,29 @@ fn taken_apart(v: u64, weight: u64, m: u8) -> R
     }
 }
 
+// Inner. 10 where R*n.m is no form of the paper: n is neither 4 nor 6, or m is over 15; else 0.
+pub fn form_refusal(n: usize, m: u8) -> u8
+    ensures { λ r. ⌜ r ≡ formRefusal n m ⌝ }
+{
+    if n != 4 && n != 6 {
+        return refusals::RANGE;
+    }
+    if 15 < m {
+        return refusals::RANGE;
+    }
+    0
+}
+
 // R*n.m as sign, magnitude and places: 10 for n neither 4 nor 6 or m over 15, 2 for fewer than n bytes.
 pub fn read_real(bytes: &[u8], n: usize, m: u8) -> Real
-    ensures { λ r. ⌜ r ≡ realOf n m (now (bytes .entry)) ⌝ }
+    ensures { λ r. ⌜ r ≡ readRealAnswer n m (now (bytes .entry)) ⌝ }
 {
-    if no_real(n, m) {
-        return Real::Refused(refusal::RANGE);
-    }
-    if bytes.len() < n {
-        return Real::Refused(refusal::SHORT_INPUT);
+    let refused = refusals::first(
+        form_refusal(n, m),
+        refusals::short(bytes.len(), n, refusals::SHORT_INPUT),
+    );
+    if refused != 0 {
+        return Real::Refused(refused);
     }
     let v = whole(bytes, n);
     let weight = sign_weight(n);
@@ -206,9 +183,10 @@ fn power(m: u8) -> u64
     POWERS[m as usize]
 }
 
-// An R number in f64: one division of two whole numbers that f64 holds exactly, so one rounding; sign last, on a zero too.
-fn value(r: R) -> f64
-    requires { ⌜ (r .magnitude < 2 ^ 47) × (r .places < 16) ⌝ }
+// Inner. An R number in f64: one division of two whole numbers that f64 holds exactly, so one rounding; sign last, on a zero
+// too.
+pub fn value(r: R) -> f64
+    requires { ⌜ Fits r ⌝ }
     ensures { λ x. ⌜ x ≡ valueOf r ⌝ }
 {
     let magnitude = r.magnitude;
@@ -217,56 +195,20 @@ fn value(r: R) -> f64
     if r.negative { -q } else { q }
 }
 
-// R*n.m in f64, refused as `read_real` refuses.
-pub fn read_f64(bytes: &[u8], n: usize, m: u8) -> Float
-    ensures { λ r. ⌜ r ≡ floatOf n m (now (bytes .entry)) ⌝ }
+// Inner. An answer in f64; a refusal stays the refusal that it is.
+pub fn as_float(r: Real) -> Float
+    requires { ⌜ FitsIn r ⌝ }
+    ensures { λ x. ⌜ x ≡ asFloat r ⌝ }
 {
-    match read_real(bytes, n, m) {
-        Real::Is(r) => Float::Is(value(r)),
+    match r {
+        Real::Is(x) => Float::Is(value(x)),
         Real::Refused(k) => Float::Refused(k),
     }
 }
 
-// The low n bytes of v, high byte first, put at the front; what lies behind them is kept.
-fn put_whole(v: u64, n: usize, out: &mut [u8])
-    requires { ⌜ (n ≤ length (now out)) × (n ≤ 8) ⌝ }
-    ensures { λ _. ⌜ now (out .exit) ≡ fieldsOf 8 n (digits (8 * n) v) ++ drop n (now (out .entry)) ⌝ }
+// R*n.m in f64, refused as `read_real` refuses.
+pub fn read_f64(bytes: &[u8], n: usize, m: u8) -> Float
+    ensures { λ r. ⌜ r ≡ readF64Answer n m (now (bytes .entry)) ⌝ }
 {
-    let mut i: usize = 0;
-    while i < n {
-        out[i] = ((v >> (8 * (n - 1 - i))) & 255) as u8;
-        i += 1;
-    }
-}
-
-// Sign and magnitude put together at the weight of the sign bit.
-fn put_together(negative: bool, magnitude: u64, weight: u64) -> u64
-    requires { ⌜ (magnitude < weight) × (weight ≤ 2 ^ 63) ⌝ }
-    ensures { λ v. ⌜ v ≡ signBit negative * weight + magnitude ⌝ }
-{
-    if negative {
-        weight + magnitude
-    } else {
-        magnitude
-    }
-}
-
-// The bytes of R*n.m: 10 for n neither 4 nor 6 or m over 15, 11 for a magnitude that does not fit beside the sign bit,
-// 3 for an output under n bytes. Bytes past the n stay, and a refused call changes none.
-pub fn put_real(negative: bool, magnitude: u64, n: usize, m: u8, out: &mut [u8]) -> Put
-    ensures { λ r. ⌜ r ≡ putOf magnitude n m (length (now (out .entry))) ⌝ }
-    ensures { λ r. ⌜ now (out .exit) ≡ writtenOf negative magnitude n m (now (out .entry)) ⌝ }
-{
-    if no_real(n, m) {
-        return Put::Refused(refusal::RANGE);
-    }
-    let weight = sign_weight(n);
-    if weight - 1 < magnitude {
-        return Put::Refused(refusal::MAGNITUDE);
-    }
-    if out.len() < n {
-        return Put::Refused(refusal::SHORT_OUTPUT);
-    }
-    put_whole(put_together(negative, magnitude, weight), n, out);
-    Put::Done
+    as_float(read_real(bytes, n, m))
 }

@@ -1,3 +1,2 @@
-pub mod Zero
 pub mod Records
 pub mod Played

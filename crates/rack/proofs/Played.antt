@@ -1,31 +1,31 @@
 -- DEMAND 3 ACROSS THE BOUNDARY: a run of calls there is a run of the reader's own calls, and so hands out exactly the lines
 -- of the plain definition in the uncut recording. Assumes nothing.
 use mathlib.Core.Bool.{Bool, true, false, cond, false≢true, true≢false}
-use mathlib.Core.List.{List, [], _∷_}
+use mathlib.Core.List.{List, _∷_}
 use mathlib.Core.Logic.{_↔_}
 use mathlib.Core.Path.{_≡_, refl, sym, ap, subst, _∙_}
 use Prim.Native.Nat.{ℕ, zero, suc, _≤_, _<_}
 use native.Mathlib.Omega.{arith}
-use lib.Dec.{eqb}
 use lib.ListN.{length, drop}
 use Rattle.formats.specs.declared.Format.{Format}
-use Rattle.formats.specs.declared.Known.the-variants.{Is}
+use Rattle.formats.specs.declared.FormatAnswer.the-variants.{Is}
 use Rattle.formats.specs.Formats.{formatOf}
-use Rattle.reader.specs.declared.State.{State}
+use Rattle.records.specs.declared.State.{State}
 use Rattle.reader.specs.declared.Answer.{Answer}
 use Rattle.reader.specs.declared.Answer.the-variants.{Refused, More, Line}
-use Rattle.reader.specs.Call.{Call, more, whole, joined}
-use Rattle.reader.specs.Driven as driven
-use Rattle.reader.specs.Driven.{Driven, lentFor, lineIn}
-use Rattle.reader.specs.Read.{readAnswer, readBuffer, callOf, answerOf, bufferOf}
-use Rattle.reader.specs.Phase.{Bench}
-use Rattle.reader.specs.Records.{freshState}
-use Rattle.reader.specs.Lines.{recorded}
-use Rattle.reader.proofs.Cases.{read-cases}
-use Rattle.reader.proofs.Demand.{demand-3}
-use Rattle.rack.specs.declared.recording.ReaderState.{ReaderState}
-use Rattle.rack.specs.declared.recording.ReadAnswer.{ReadAnswer}
-use Rattle.rack.specs.Recording.{keptOf, refusedRead, readGiven, readOf, lineLeft}
+use Rattle.bits.specs.Bits.{inARow}
+use Rattle.scan.specs.Call.{Call, more, whole}
+use Rattle.cuts.specs.Driven as driven
+use Rattle.cuts.specs.Driven.{Driven, lentFor, lineIn}
+use Rattle.reader.specs.Read.{readAnswer, readLeft, callOf, callAnswer}
+use Rattle.scan.specs.Phase.{Bench}
+use Rattle.records.specs.Records.{freshState}
+use Rattle.scan.specs.Lines.{recorded}
+use Rattle.cuts.proofs.Cases.{read-cases}
+use Rattle.cuts.proofs.Demand.{demand-3}
+use Rattle.rack_recording.specs.declared.ReaderState.{ReaderState}
+use Rattle.rack_recording.specs.declared.ReadAnswer.{ReadAnswer}
+use Rattle.rack_recording.specs.Recording.{keptOf, refusedRead, readGiven, readOf, lineLeft}
 use Rattle.rack.specs.Run as run
 use Rattle.rack.specs.Run.{Played, lentAt}
 use Rattle.rack.proofs.Records.{kept-flag, read-through, line-through}
@@ -38,7 +38,7 @@ refused-some f s p buf =
     (λ h l n e. let z : _≡_ {A = ℕ} 0 1 = cc in absurd (omega arith))
     (λ h m l n e. go (callOf s p buf) n e)
   where
-    go : (c : Call Bench) (n : ℕ) → answerOf c ≡ Refused n → zero < n
+    go : (c : Call Bench) (n : ℕ) → callAnswer c ≡ Refused n → zero < n
     go (more t b m v) n e = let z : _≡_ {A = ℕ} 0 1 = cc in absurd (omega arith)
     go (whole t b m v) n e = let z : _≡_ {A = ℕ} 0 1 = cc in absurd (omega arith)
 
@@ -72,7 +72,7 @@ module _ (f : ℕ) (lend : ℕ → List ℕ → List ℕ) where
       ∙ read-through f s p (lentFor lend k s buf)
 
   same-buffer : (k : ℕ) (s : State) (r : ReaderState) (p buf : List ℕ) → r ≡ keptOf s
-      → lineLeft f r p (lentAt lend k r buf) ≡ readBuffer f s p (lentFor lend k s buf)
+      → lineLeft f r p (lentAt lend k r buf) ≡ readLeft f s p (lentFor lend k s buf)
   same-buffer k s r p buf e =
       ap (λ (x : ReaderState). lineLeft f x p (lentAt lend k x buf)) e ∙ ap (lineLeft f (keptOf s) p) (lent-same k s buf)
       ∙ line-through f s p (lentFor lend k s buf)
@@ -88,13 +88,13 @@ module _ (f : ℕ) (lend : ℕ → List ℕ → List ℕ) where
   from-driven {k} {s} {buf} (driven.Driven.on {p = p} {ps = ps} {ls = ls} {t = t} {s′ = s′} e d) =
       let a : readOf f (keptOf s) p (lentAt lend k (keptOf s) buf) ≡ readGiven (keptOf s) (More t s′) = same-answer k s (keptOf s) p buf refl ∙ ap (readGiven (keptOf s)) e in
       let b = same-buffer k s (keptOf s) p buf refl in
-      let rest : Rest k p ps ls (readGiven (keptOf s) (More t s′)) (readBuffer f s p (lentFor lend k s buf)) = from-driven d in
+      let rest : Rest k p ps ls (readGiven (keptOf s) (More t s′)) (readLeft f s p (lentFor lend k s buf)) = from-driven d in
       run.Played.on (ap (λ (x : ReadAnswer). x .refused) a) (ap (λ (x : ReadAnswer). x .complete) a)
       (subst (λ (x : ReadAnswer). Rest k p ps ls x (lineLeft f (keptOf s) p (lentAt lend k (keptOf s) buf))) (sym a) (subst (Rest k p ps ls (readGiven (keptOf s) (More t s′))) (sym b) rest))
   from-driven {k} {s} {buf} (driven.Driven.got {p = p} {ps = ps} {ls = ls} {t = t} {s′ = s′} e d) =
       let a : readOf f (keptOf s) p (lentAt lend k (keptOf s) buf) ≡ readGiven (keptOf s) (Line t s′) = same-answer k s (keptOf s) p buf refl ∙ ap (readGiven (keptOf s)) e in
       let b = same-buffer k s (keptOf s) p buf refl in
-      let rest : Rest k p ps ls (readGiven (keptOf s) (Line t s′)) (readBuffer f s p (lentFor lend k s buf)) = from-driven d in
+      let rest : Rest k p ps ls (readGiven (keptOf s) (Line t s′)) (readLeft f s p (lentFor lend k s buf)) = from-driven d in
       subst (λ (x : List ℕ). Played f lend k (keptOf s) buf (p ∷ ps) (lineIn x ∷ ls)) b
       (run.Played.got (ap (λ (x : ReadAnswer). x .refused) a) (ap (λ (x : ReadAnswer). x .complete) a)
       (subst (λ (x : ReadAnswer). Rest k p ps ls x (lineLeft f (keptOf s) p (lentAt lend k (keptOf s) buf))) (sym a) (subst (Rest k p ps ls (readGiven (keptOf s) (Line t s′))) (sym b) rest)))
@@ -127,7 +127,7 @@ module _ (f : ℕ) (lend : ℕ → List ℕ → List ℕ) where
 -- between lines for any other full-size one as the caller likes. However the recording is cut, the lines handed out are
 -- exactly those of the plain definition in the uncut recording, in that order, an unfinished last one never
 pub demand-3-across : (f : ℕ) (format : Format) → formatOf f ≡ Is format → (lend : ℕ → List ℕ → List ℕ) → ((k : ℕ) (b : List ℕ) → 44356 ≤ length b → 44356 ≤ length (lend k b))
-    → (buf : List ℕ) → 44356 ≤ length buf → (ps ls : List (List ℕ)) → Played f lend 0 (keptOf freshState) buf ps ls ↔ (ls ≡ recorded (joined ps))
+    → (buf : List ℕ) → 44356 ≤ length buf → (ps ls : List (List ℕ)) → Played f lend 0 (keptOf freshState) buf ps ls ↔ (ls ≡ recorded (inARow ps))
 demand-3-across f format ok lend long buf m ps ls =
     let d = demand-3 f format ok lend long buf m ps ls in (
       λ r. d .0 (to-driven f lend r freshState refl),

@@ -6,16 +6,17 @@ use mathlib.Core.Path.{_≡_, refl, ap}
 use Prim.Native.Nat.{ℕ, zero, _<_}
 use native.Mathlib.Omega.{arith}
 use lib.Dec.{ltb, eqb}
-use Rattle.reader.specs.declared.State.{State}
+use Rattle.records.specs.declared.State.{State}
 use Rattle.reader.specs.declared.Answer.{Answer}
 use Rattle.reader.specs.declared.Answer.the-variants.{Refused, More, Line}
-use Rattle.reader.specs.Records.{freshState}
-use Rattle.reader.specs.Read.{readAnswer, readBuffer}
-use Rattle.reader.proofs.Keeps.{refused-stays}
-use Rattle.sectors.specs.Asked.{first, formatRefusal}
-use Rattle.rack.specs.declared.recording.ReaderState.{ReaderState}
-use Rattle.rack.specs.declared.recording.ReadAnswer.{ReadAnswer}
-use Rattle.rack.specs.Recording.{handedOf, flagOf, keptOf, refusedRead, readGiven, readOf, lineLeft}
+use Rattle.records.specs.Records.{freshState}
+use Rattle.reader.specs.Read.{readAnswer, readLeft}
+use Rattle.cuts.proofs.Keeps.{refused-stays}
+use Rattle.refusals.specs.Refusals.{first}
+use Rattle.formats.specs.Formats.{formatRefusal}
+use Rattle.rack_recording.specs.declared.ReaderState.{ReaderState}
+use Rattle.rack_recording.specs.declared.ReadAnswer.{ReadAnswer}
+use Rattle.rack_recording.specs.Recording.{handedOf, flagOf, keptOf, refusedRead, readGiven, readOf, lineLeft}
 
 -- a truth value comes back from its number, which is never over 1
 flag-back : (b : Bool) → eqb (flagOf b) 1 ≡ b
@@ -55,7 +56,7 @@ pub read-through : (f : ℕ) (s : State) (piece line : List ℕ) → readOf f (k
 unfolding readOf keptOf
 read-through f s piece line = rw (flag-fits (s .«in_line»), handed-kept s)
 
-pub line-through : (f : ℕ) (s : State) (piece line : List ℕ) → lineLeft f (keptOf s) piece line ≡ readBuffer f s piece line
+pub line-through : (f : ℕ) (s : State) (piece line : List ℕ) → lineLeft f (keptOf s) piece line ≡ readLeft f s piece line
 unfolding lineLeft keptOf
 line-through f s piece line = rw (flag-fits (s .«in_line»), handed-kept s)
 
@@ -69,12 +70,12 @@ pub read-refused : (f : ℕ) (r : ReaderState) (piece buf : List ℕ) → zero <
 unfolding readOf lineLeft refusedRead readGiven
 read-refused f r piece buf = go (ltb 1 (r .«in_line»))
   where
-    by : (x : Answer) → readAnswer f (handedOf r) piece buf ≡ x → zero < readGiven r x .refused → Unchanged r buf (readGiven r x) (readBuffer f (handedOf r) piece buf)
+    by : (x : Answer) → readAnswer f (handedOf r) piece buf ≡ x → zero < readGiven r x .refused → Unchanged r buf (readGiven r x) (readLeft f (handedOf r) piece buf)
     by (Refused n) e h = record { given-back = refl; taken-none = refl; buffer = refused-stays f (handedOf r) piece buf n e }
     by (More t s) e h = absurd (omega arith)
     by (Line t s) e h = absurd (omega arith)
 
     go : (b : Bool) → zero < cond b (refusedRead (first (formatRefusal f) 12) r) (readGiven r (readAnswer f (handedOf r) piece buf)) .refused
-        → Unchanged r buf (cond b (refusedRead (first (formatRefusal f) 12) r) (readGiven r (readAnswer f (handedOf r) piece buf))) (cond b buf (readBuffer f (handedOf r) piece buf))
+        → Unchanged r buf (cond b (refusedRead (first (formatRefusal f) 12) r) (readGiven r (readAnswer f (handedOf r) piece buf))) (cond b buf (readLeft f (handedOf r) piece buf))
     go true h = record { given-back = refl; taken-none = refl; buffer = refl }
     go false h = by (readAnswer f (handedOf r) piece buf) refl h

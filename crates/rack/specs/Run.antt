@@ -7,9 +7,9 @@ use mathlib.Core.Path.{_≡_}
 use Prim.Native.Nat.{ℕ, suc}
 use lib.Dec.{eqb}
 use lib.ListN.{drop}
-use Rattle.reader.specs.Driven.{lineIn}
-use Rattle.rack.specs.declared.recording.ReaderState.{ReaderState}
-use Rattle.rack.specs.Recording.{readOf, lineLeft}
+use Rattle.cuts.specs.Driven.{lineIn}
+use Rattle.rack_recording.specs.declared.ReaderState.{ReaderState}
+use Rattle.rack_recording.specs.Recording.{readOf, lineLeft}
 
 -- the buffer of call k: inside a line it stays; between lines it is what the caller makes of it, `lend k`
 abbrev pub lentAt : (ℕ → List ℕ → List ℕ) → ℕ → ReaderState → List ℕ → List ℕ

@@ -1,15 +1,15 @@
-// The library for the board: every public call of the crates below it, for C and Rust. Each function hands its numbers and
-// slices on to the call of the same name and lays that call's answer out as one struct of numbers: `refused` is 0 or the
-// number of the refusal, and a refused answer has 0 in every other field. What a caller keeps from call to call, the record
-// of a reader and the marks of an assembly, comes back as it was handed in where a call is refused.
+// The library for the board, as a whole: there is no code here. Its calls, for C and Rust, are those of six crates, and
+// `library/build` makes one archive of them:
 //
-// The contracts cite `specs/`, one definition for each answer, over the definitions of the calls themselves. No function
-// has a `requires`: nothing checks a caller in C.
+//   rack_ground     formats, register, SYNC
+//   rack_recording  the reader and the writer of recordings
+//   rack_sector     the twelve sectors of one plain line, read and written
+//   rack_number     the numbers of the documentation fields; the answers that the others give too
+//   rack_document   the fields of the documentation sector
+//   rack_blocks     blocks out of segments, and the entries of a finished block
 //
-// A slice crosses as a pointer and a count; slices that are lent to one call must not overlap.
-pub mod assembly;
-pub mod documentation;
-pub mod ground;
-pub mod number;
-pub mod recording;
-pub mod sector;
+// `specs/` and `proofs/` have what is claimed across the boundary, over the definitions of those crates:
+//
+//   Records  the reader's record comes back unchanged, so each call is the reader's own; a refused one changes nothing
+//   Run      the caller of demand 3 on the other side of the boundary
+//   Played   demand 3 across the boundary

@@ -1,4 +1,3 @@
 pub mod Register
 pub mod Sync
 pub mod Wire
-pub mod Put

@@ -1,19 +1,15 @@
-// The scrambling bits, SYNC, byte complementing, and bits put on the wire and made plain again.
+// The scrambling bits, and bits put on the wire and made plain again: one rule for one bit serves the reader and the writer.
 //
-// The contracts cite `specs/Register.antt` (the register and its step), `specs/Sync.antt` (SYNC and the tail) and
-// `specs/Wire.antt` (complementing and scrambling). `put_sync` and the two steps ask nothing of their caller; the
-// other functions are inner, and say so.
+// The contracts cite `specs/Register.antt` (the register and its step) and `specs/Wire.antt` (complementing and scrambling);
+// `specs/Sync.antt` says what SYNC and the tail are. The two steps ask nothing of their caller; the other functions are
+// inner, and say so.
 ghost use mathlib.Core.Path.{_≡_};
 ghost use mathlib.Core.List.{_++_};
-ghost use Prim.Native.Nat.{_+_, _*_, _/_, _%_, _^_, _≤_, _<_};
+ghost use Prim.Native.Nat.{_+_, _*_, _%_, _^_, _≤_, _<_};
 ghost use lib.ListN.{length, take, drop};
 ghost use Rattle.bits.specs.Bits.{bitsOf, part};
-ghost use Rattle.scramble.specs.Register.{newBit, nextRegister, registerAfter, scramblingBits};
-ghost use Rattle.scramble.specs.Wire.{wireOf};
-ghost use Rattle.scramble.specs.Put.{beforeSync, syncPutOf, syncOutOf};
-use formats::Format;
-use formats::Known;
-use formats::refusal;
+ghost use Rattle.scramble.specs.Register.{newBit, nextRegister, registerAfter};
+ghost use Rattle.scramble.specs.Wire.{plainBit, wireOf};
 
 // The last fifteen scrambling bits, the newest lowest.
 pub struct Register {
@@ -28,14 +24,6 @@ pub struct Shifted {
 
 // Fifteen ones: where SYNC ends, and where the first information bit begins.
 pub const FIFTEEN_ONES: u16 = 0x7fff;
-
-// The last 64 bits of SYNC.
-pub const TAIL: u64 = 0x4bbb_b999_9555_7fff;
-
-// The registers from which SYNC's 10,000 and 20,000 bits lead to fifteen ones.
-const BEFORE_1: u16 = 0x339f;
-
-const BEFORE_2: u16 = 0x61df;
 
 // The lowest bit of a number.
 fn low_bit(x: u16) -> u8
@@ -67,11 +55,20 @@ pub fn step(r: &mut Register) -> u8
     s.bit
 }
 
-// 1 in every second group of eight bits, counted from the first information bit.
-fn group_bit(place: usize) -> u8
-    ensures { λ r. ⌜ (r ≡ place / 8 % 2) × (r < 2) ⌝ }
+// Inner. One bit put on the wire or made plain, one rule for both ways: the next scrambling bit and the bit of its group
+// of eight, 1 in every second, put on it by exclusive or. Place is its number, counted from the first information bit, and r
+// the register before it; the register after it comes with the bit.
+pub fn mix_bit(place: usize, r: Register, bit: u8) -> Shifted
+    requires { ⌜ bit < 2 ⌝ }
+    ensures { λ o. ⌜ (o .next .bits ≡ nextRegister (r .bits)) × (o .bit ≡ plainBit place (r .bits) bit) ⌝ }
 {
-    ((place >> 3) & 1) as u8
+    let t = stepped(r);
+    let group = ((place >> 3) & 1) as u8;
+    let next = t.next;
+    Shifted {
+        next: next,
+        bit: (bit ^ t.bit) ^ group,
+    }
 }
 
 // Inner. Count bits of s from a place on, put on the wire or made plain: one exclusive or serves both ways. Place is
@@ -84,64 +81,12 @@ pub fn mix(s: &mut [u8], from: usize, count: usize, place: usize, r: Register) -
     let mut reg = r;
     let mut i: usize = 0;
     while i < count {
-        let t = stepped(reg);
-        let b = bits::bit_at(s, from + i);
-        bits::put_bit(s, from + i, b ^ group_bit(place + i) ^ t.bit);
+        let b = slices::bit_at(s, from + i);
+        let t = mix_bit(place + i, reg, b);
+        slice_writer::put_bit(s, from + i, t.bit);
         let next = t.next;
         reg = next;
         i += 1;
     }
     reg
-}
-
-// Inner. The count scrambling bits that follow a register, put into s from a place on; the register after them comes back.
-pub fn put_scrambling(s: &mut [u8], from: usize, count: usize, r: Register) -> Register
-    requires { ⌜ (from + count ≤ 8 * length (now s)) × (from + count < 2 ^ 64) ⌝ }
-    ensures { λ o. ⌜ (bitsOf (now (s .exit)) ≡ take from (bitsOf (now (s .entry))) ++ scramblingBits count (r .bits) ++ drop (from + count) (bitsOf (now (s .entry)))) × (o .bits ≡ registerAfter count (r .bits)) ⌝ }
-{
-    let mut reg = r;
-    let mut i: usize = 0;
-    while i < count {
-        let t = stepped(reg);
-        bits::put_bit(s, from + i, t.bit);
-        let next = t.next;
-        reg = next;
-        i += 1;
-    }
-    reg
-}
-
-// The answer of `put_sync`: the bytes that SYNC takes.
-pub enum SyncPut {
-    Refused(u8),
-    Put(usize),
-}
-
-// Inner. The register before the first bit of a format's SYNC, of one that `Format::of` gave.
-pub fn before_sync(f: Format) -> Register
-    ensures { λ r. ⌜ r .bits ≡ beforeSync (f .number) ⌝ }
-{
-    if f.number == 1 {
-        Register { bits: BEFORE_1 }
-    } else {
-        Register { bits: BEFORE_2 }
-    }
-}
-
-// SYNC of a format, put at the front of out; the bytes of out past it stay. Refused with 1 for the format, and with 3
-// where out is shorter than SYNC.
-pub fn put_sync(format: u8, out: &mut [u8]) -> SyncPut
-    ensures { λ r. ⌜ (r ≡ syncPutOf format (now (out .entry))) × (now (out .exit) ≡ syncOutOf format (now (out .entry))) ⌝ }
-{
-    match Format::of(format) {
-        Known::Refused(number) => SyncPut::Refused(number),
-        Known::Is(f) => {
-            let bytes = f.sync / 8;
-            if out.len() < bytes {
-                return SyncPut::Refused(refusal::SHORT_OUTPUT);
-            }
-            put_scrambling(out, 0, f.sync, before_sync(f));
-            SyncPut::Put(bytes)
-        }
-    }
 }

@@ -1,9 +1,1 @@
-pub mod Pieces
-pub mod Frames
-pub mod Overs
 pub mod Writable
-pub mod Back
-pub mod RoundTrip
-pub mod Others
-pub mod Points
-pub mod Rounds

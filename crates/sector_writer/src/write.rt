@@ -2,23 +2,21 @@
 ghost use mathlib.Core.Path.{_≡_};
 ghost use Prim.Native.Nat.{_≤_};
 ghost use lib.ListN.{length};
-ghost use Rattle.bits.specs.Bits.{bitsOf};
 ghost use Rattle.formats.specs.Formats.{lineBytes};
+ghost use Rattle.bits.specs.Bits.{bitsOf};
 ghost use Rattle.sectors.specs.Layout.{bytesOf, Sound};
-ghost use Rattle.sector_writer.specs.Written.{dataWritten, pixelsWritten, writtenOf, inputShort, putDataNumber, putDataLeft, putPixelsNumber, putPixelsLeft};
-use crate::frame::put_bytes;
-use crate::frame::put_frame;
-use crate::frame::put_row;
-use crate::frame::put_row_wide;
-use crate::over::limit_of;
-use crate::over::over_bytes;
-use crate::over::over_wide;
+ghost use Rattle.sector_frame.specs.Written.{dataWritten, pixelsWritten, sectorWritten};
+ghost use Rattle.sector_writer.specs.Calls.{inputShort, putDataAnswer, putDataLeft, putPixelsAnswer, putPixelsLeft};
 use formats::Format;
-use formats::refusal;
+use formats::check_start;
+use refusals::first;
+use refusals::short;
+use sector_frame::frame::put_bytes;
+use sector_frame::frame::put_frame;
+use sector_frame::over::limit_of;
+use sector_frame::over::over_bytes;
+use sector_frame::over::over_wide;
 use sectors::asked::asked;
-use sectors::asked::check_start;
-use sectors::asked::first;
-use sectors::asked::short;
 use sectors::layout::Layout;
 use sectors::layout::data_bytes;
 use sectors::layout::layout_of;
@@ -28,14 +26,14 @@ fn input_short(length: usize, given: usize, needed: usize) -> u8
     ensures { λ r. ⌜ r ≡ inputShort length given needed ⌝ }
 {
     first(
-        short(length, Format::LINE_BYTES, refusal::SHORT_INPUT),
-        short(given, needed, refusal::SHORT_INPUT),
+        short(length, Format::LINE_BYTES, refusals::SHORT_INPUT),
+        short(given, needed, refusals::SHORT_INPUT),
     )
 }
 
 // Inner. What refuses data: 1, 4, 2; else 0.
 fn data_refusal(format: u8, length: usize, sector: u8, given: usize) -> u8
-    ensures { λ r. ⌜ r ≡ putDataNumber format length sector given ⌝ }
+    ensures { λ r. ⌜ r ≡ putDataAnswer format length sector given ⌝ }
 {
     let refused = asked(format, 1, 12, sector);
     if refused != 0 {
@@ -47,7 +45,7 @@ fn data_refusal(format: u8, length: usize, sector: u8, given: usize) -> u8
 // Inner. Data with ID, check word and filler.
 fn write_bytes(start: u16, l: Layout, line: &mut [u8], bytes: &[u8])
     requires { ⌜ Sound l × (lineBytes ≤ length (now line)) × (bytesOf l ≤ length (now bytes)) ⌝ }
-    ensures { λ _. ⌜ bitsOf (now (line .exit)) ≡ writtenOf start l (dataWritten l (now (bytes .entry))) (bitsOf (now (line .entry))) ⌝ }
+    ensures { λ _. ⌜ bitsOf (now (line .exit)) ≡ sectorWritten start l (dataWritten l (now (bytes .entry))) (bitsOf (now (line .entry))) ⌝ }
 {
     put_bytes(l, line, bytes);
     put_frame(start, l, line);
@@ -57,7 +55,7 @@ fn write_bytes(start: u16, l: Layout, line: &mut [u8], bytes: &[u8])
 // behind them are not read, and the two spare low bits of the last are ignored in sectors 9 to 12. Answers 0, or refuses
 // with 1, 4, 2 and leaves the line as it was. Every other bit of the buffer is kept.
 pub fn put_data(format: u8, line: &mut [u8], sector: u8, bytes: &[u8]) -> u8
-    ensures { λ r. ⌜ (r ≡ putDataNumber format (length (now (line .entry))) sector (length (now (bytes .entry)))) × (bitsOf (now (line .exit)) ≡ putDataLeft format (now (line .entry)) sector (now (bytes .entry))) ⌝ }
+    ensures { λ r. ⌜ (r ≡ putDataAnswer format (length (now (line .entry))) sector (length (now (bytes .entry)))) × (bitsOf (now (line .exit)) ≡ putDataLeft format (now (line .entry)) sector (now (bytes .entry))) ⌝ }
 {
     let refused = data_refusal(format, line.len(), sector, bytes.len());
     if refused != 0 {
@@ -69,7 +67,7 @@ pub fn put_data(format: u8, line: &mut [u8], sector: u8, bytes: &[u8]) -> u8
 
 // Inner. What refuses pixels out of bytes: 1, 4, 10, 2; else 0.
 fn pixels_refusal(format: u8, length: usize, sector: u8, pixels: &[u8]) -> u8
-    ensures { λ r. ⌜ r ≡ putPixelsNumber 2 11 format length sector (now (pixels .entry)) ⌝ }
+    ensures { λ r. ⌜ r ≡ putPixelsAnswer 2 11 format length sector (now (pixels .entry)) ⌝ }
 {
     let refused = asked(format, 2, 11, sector);
     if refused != 0 {
@@ -85,9 +83,9 @@ fn pixels_refusal(format: u8, length: usize, sector: u8, pixels: &[u8]) -> u8
 // Inner. Pixels out of bytes with ID, check word and filler.
 fn write_row(start: u16, l: Layout, line: &mut [u8], pixels: &[u8])
     requires { ⌜ Sound l × (lineBytes ≤ length (now line)) × (l .count ≤ length (now pixels)) ⌝ }
-    ensures { λ _. ⌜ bitsOf (now (line .exit)) ≡ writtenOf start l (pixelsWritten l (now (pixels .entry))) (bitsOf (now (line .entry))) ⌝ }
+    ensures { λ _. ⌜ bitsOf (now (line .exit)) ≡ sectorWritten start l (pixelsWritten l (now (pixels .entry))) (bitsOf (now (line .entry))) ⌝ }
 {
-    put_row(l, line, pixels);
+    slice_writer::pack_bytes(pixels, l.count, l.width, line, l.start + l.id_bits);
     put_frame(start, l, line);
 }
 
@@ -95,7 +93,7 @@ fn write_row(start: u16, l: Layout, line: &mut [u8], pixels: &[u8])
 // with 1, 4, 10, 2 and leaves the line as it was. Only the pixels that the sector takes are looked at; where fewer are
 // given, one of those that is over its width is 10 before the count is 2. Every other bit of the buffer is kept.
 pub fn put_pixels(format: u8, line: &mut [u8], sector: u8, pixels: &[u8]) -> u8
-    ensures { λ r. ⌜ (r ≡ putPixelsNumber 2 11 format (length (now (line .entry))) sector (now (pixels .entry))) × (bitsOf (now (line .exit)) ≡ putPixelsLeft 2 11 format (now (line .entry)) sector (now (pixels .entry))) ⌝ }
+    ensures { λ r. ⌜ (r ≡ putPixelsAnswer 2 11 format (length (now (line .entry))) sector (now (pixels .entry))) × (bitsOf (now (line .exit)) ≡ putPixelsLeft 2 11 format (now (line .entry)) sector (now (pixels .entry))) ⌝ }
 {
     let refused = pixels_refusal(format, line.len(), sector, pixels);
     if refused != 0 {
@@ -107,7 +105,7 @@ pub fn put_pixels(format: u8, line: &mut [u8], sector: u8, pixels: &[u8]) -> u8
 
 // Inner. What refuses pixels of sixteen bits: 1, 4, 10, 2; else 0.
 fn wide_refusal(format: u8, length: usize, sector: u8, pixels: &[u16]) -> u8
-    ensures { λ r. ⌜ r ≡ putPixelsNumber 12 12 format length sector (now (pixels .entry)) ⌝ }
+    ensures { λ r. ⌜ r ≡ putPixelsAnswer 12 12 format length sector (now (pixels .entry)) ⌝ }
 {
     let refused = asked(format, 12, 12, sector);
     if refused != 0 {
@@ -123,15 +121,15 @@ fn wide_refusal(format: u8, length: usize, sector: u8, pixels: &[u16]) -> u8
 // Inner. Pixels of sixteen bits with ID, check word and filler.
 fn write_row_wide(start: u16, l: Layout, line: &mut [u8], pixels: &[u16])
     requires { ⌜ Sound l × (lineBytes ≤ length (now line)) × (l .count ≤ length (now pixels)) ⌝ }
-    ensures { λ _. ⌜ bitsOf (now (line .exit)) ≡ writtenOf start l (pixelsWritten l (now (pixels .entry))) (bitsOf (now (line .entry))) ⌝ }
+    ensures { λ _. ⌜ bitsOf (now (line .exit)) ≡ sectorWritten start l (pixelsWritten l (now (pixels .entry))) (bitsOf (now (line .entry))) ⌝ }
 {
-    put_row_wide(l, line, pixels);
+    slice_writer::pack(pixels, l.count, l.width, line, l.start + l.id_bits);
     put_frame(start, l, line);
 }
 
 // Pixels into IR4, sector 12, at ten bits. Refusals and edges as for `put_pixels`.
 pub fn put_pixels_wide(format: u8, line: &mut [u8], sector: u8, pixels: &[u16]) -> u8
-    ensures { λ r. ⌜ (r ≡ putPixelsNumber 12 12 format (length (now (line .entry))) sector (now (pixels .entry))) × (bitsOf (now (line .exit)) ≡ putPixelsLeft 12 12 format (now (line .entry)) sector (now (pixels .entry))) ⌝ }
+    ensures { λ r. ⌜ (r ≡ putPixelsAnswer 12 12 format (length (now (line .entry))) sector (now (pixels .entry))) × (bitsOf (now (line .exit)) ≡ putPixelsLeft 12 12 format (now (line .entry)) sector (now (pixels .entry))) ⌝ }
 {
     let refused = wide_refusal(format, line.len(), sector, pixels);
     if refused != 0 {

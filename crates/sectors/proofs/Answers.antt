@@ -3,11 +3,11 @@ use mathlib.Core.Path.{_≡_, refl}
 use mathlib.Core.List.{List}
 use Prim.Native.Nat.{ℕ}
 use borrow.Author.Tests.{eq-eqb, ne-eqb}
+use Rattle.refusals.specs.Refusals.{first, when}
 use Rattle.bits.specs.Bits.{bitsOf, part, numberOf}
 use Rattle.crc.specs.Remainder.{remainderOf}
 use Rattle.sectors.specs.declared.layout.Layout.{Layout}
-use Rattle.sectors.specs.Asked.{first, when}
-use Rattle.sectors.specs.Sector.{stretch, coveredOf, idOf, answerOf}
+use Rattle.sectors.specs.Sector.{coveredOf, idOf, answerOf}
 
 module _ (start : ℕ) (l : Layout) (b : List ℕ) where
   pub answer-five : (remainderOf start (coveredOf l b) ≡ 0 → ⊥) → 5 ≡ answerOf start l b
@@ -24,5 +24,5 @@ module _ (start : ℕ) (l : Layout) (b : List ℕ) where
 
 -- as the code reads it
 pub id-part : (l : Layout) (s : List ℕ) → numberOf (part s (l .start) (l .«id_bits»)) ≡ idOf l (bitsOf s)
-unfolding part idOf stretch
+unfolding part idOf
 id-part l s = refl

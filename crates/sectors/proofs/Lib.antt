@@ -1,10 +1,6 @@
-pub mod First
+pub mod Admitted
 pub mod Table
 pub mod Rows
 pub mod Bounds
-pub mod Stretch
 pub mod Answers
-pub mod Counts
-pub mod Unpacked
-pub mod Joined
-pub mod Parts
+pub mod AtOnce

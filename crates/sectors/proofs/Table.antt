@@ -1,7 +1,7 @@
 -- THE TABLE HOLDS TOGETHER: the sectors follow each other without gap or overlap and end at the line's last bit; which
 -- of them start off a byte edge; and what holds of each row. Assumes nothing.
 use mathlib.Core.Path.{_≡_, refl, sym, subst}
-use mathlib.Core.Bool.{Bool, true, false, _&&_, cond}
+use mathlib.Core.Bool.{Bool, true, _&&_, cond}
 use mathlib.Core.List.{List, [], _∷_}
 use Prim.Native.Nat.{ℕ, zero, suc, _+_, _*_, _-_, _%_, _^_, _≤_, _<_}
 use native.Mathlib.Nat.{not-suc-le-zero, le-of-suc-le-suc}
@@ -9,6 +9,7 @@ use native.Mathlib.Omega.{arith}
 use lib.Dec.{T, eqb, leb, ltb, eqb→eq, leb→le, ltb→lt}
 use lib.ListN.{length, getD, take}
 use lib.Seq.{getD-take}
+use lib.Ieee.Fits.{and-l, and-r}
 use Rattle.formats.specs.Formats.{informationBits}
 use Rattle.sectors.specs.declared.layout.Layout.{Layout}
 use Rattle.sectors.specs.Layout.{sectors, none, layoutOf, checkBits, fillerBits, Sound}
@@ -19,22 +20,14 @@ every : (Layout → Bool) → List Layout → Bool
 every f [] = true
 every f (l ∷ ls) = f l && every f ls
 
-left : (a b : Bool) → T (a && b) → T a
-left true b h = tt
-left false b h = h
-
-right : (a b : Bool) → T (a && b) → T b
-right true b h = h
-right false b h = absurd h
-
 at-row : (f : Layout → Bool) (ls : List Layout) → T (every f ls) → (i : ℕ) → i < length ls → T (f (getD ls i none))
 unfolding every
 at-row f [] h i p = absurd (not-suc-le-zero p)
-at-row f (l ∷ ls) h zero p = left (f l) (every f ls) h
-at-row f (l ∷ ls) h (suc i) p = at-row f ls (right (f l) (every f ls) h) i (le-of-suc-le-suc p)
+at-row f (l ∷ ls) h zero p = and-l (f l) (every f ls) h
+at-row f (l ∷ ls) h (suc i) p = at-row f ls (and-r (f l) (every f ls) h) i (le-of-suc-le-suc p)
 
 -- of a served sector
-twelve : length sectors ≡ 12
+pub twelve : length sectors ≡ 12
 unfolding sectors
 twelve = refl
 

@@ -1,21 +1,23 @@
--- What each call answers, and what it leaves in each lent slice, for every input. Refusals stand in the order in which
--- they are tested. Assumes nothing.
-use Prim.Native.Nat.{ℕ, zero, suc, _+_}
-use mathlib.Core.List.{List, _++_}
-use lib.ListN.{length, drop}
+-- What the calls on the check and the filler answer, for every input. Refusals stand in the order in which they are
+-- tested. Assumes nothing.
+use Prim.Native.Nat.{ℕ}
+use mathlib.Core.List.{List}
+use lib.ListN.{length, replicate}
+use Rattle.refusals.specs.Refusals.{first, kept, shortOf, answered}
+use Rattle.formats.specs.Formats.{lineBytes, formatRefusal, checkStart}
 use Rattle.bits.specs.Bits.{bitsOf}
 use Rattle.sectors.specs.declared.check.Counted.{Counted}
 use Rattle.sectors.specs.declared.check.Counted.the-variants.{Set, Refused}
-use Rattle.sectors.specs.declared.layout.Layout.{Layout}
-use Rattle.sectors.specs.Layout.{layoutOf, bytesOf}
-use Rattle.sectors.specs.Asked.{first, kept, shortOf, lineRefusal, checkStart}
-use Rattle.sectors.specs.Sector.{answerOf, fillerOf, dataOf, pixelsOf, joinedOf}
+use Rattle.sectors.specs.declared.check.Twelve.{Twelve}
+use Rattle.sectors.specs.Layout.{layoutOf}
+use Rattle.sectors.specs.Asked.{lineRefusal}
+use Rattle.sectors.specs.Sector.{answerOf, answersOf, fillerOf}
 
--- ---- accepted, filler
+-- ---- accepted: 1, 4, 2, 5, 6
+unfoldable pub acceptedAnswer : ℕ → List ℕ → ℕ → ℕ
+acceptedAnswer f line n = first (lineRefusal f 1 12 n (length line)) (answerOf (checkStart f) (layoutOf n) (bitsOf line))
 
--- 1, 4, 2, 5, 6
-unfoldable pub acceptedOf : ℕ → List ℕ → ℕ → ℕ
-acceptedOf f line n = first (lineRefusal f 1 12 n (length line)) (answerOf (checkStart f) (layoutOf n) (bitsOf line))
+-- ---- filler: 1, 4, 2
 
 -- the paper's number and count for each answer
 abbrev pub countedNumber : Counted → ℕ
@@ -26,53 +28,16 @@ abbrev pub countedCount : Counted → ℕ
 countedCount (Set n) = n
 countedCount (Refused r) = 0
 
--- a count, where a call is refused with a number or not
-unfoldable pub counted : ℕ → ℕ → Counted
-counted zero n = Set n
-counted (suc r) n = Refused (suc r)
+unfoldable pub fillerAnswer : ℕ → List ℕ → ℕ → Counted
+fillerAnswer f line n = answered Refused (lineRefusal f 1 12 n (length line)) (Set (fillerOf (layoutOf n) (bitsOf line)))
 
--- 1, 4, 2
-unfoldable pub countedOf : ℕ → List ℕ → ℕ → Counted
-countedOf f line n = counted (lineRefusal f 1 12 n (length line)) (fillerOf (layoutOf n) (bitsOf line))
+-- ---- answers: 1, 2
+unfoldable pub answersRefusal : ℕ → ℕ → ℕ
+answersRefusal f given = first (formatRefusal f) (shortOf given lineBytes 2)
 
--- ---- data and pixels
-
--- 3, 5, 6
-unfoldable pub readRefusal : ℕ → Layout → List ℕ → ℕ → ℕ → ℕ
-readRefusal start l b given needed = first (shortOf given needed 3) (answerOf start l b)
-
--- 1, 4, 2, 3, 5, 6
-unfoldable pub dataNumber : ℕ → List ℕ → ℕ → ℕ → ℕ
-dataNumber f line n given =
-    first (lineRefusal f 1 12 n (length line)) (readRefusal (checkStart f) (layoutOf n) (bitsOf line) given (bytesOf (layoutOf n)))
-
-unfoldable pub dataLeft : ℕ → List ℕ → ℕ → List ℕ → List ℕ
-dataLeft f line n out = kept (dataNumber f line n (length out)) out (dataOf (layoutOf n) (bitsOf line) ++ drop (bytesOf (layoutOf n)) out)
-
--- 1, 4, 2, 3, 5, 6, of the sectors from lo to hi: 2 to 11 into bytes, 12 into numbers of sixteen bits
-unfoldable pub pixelsNumber : ℕ → ℕ → ℕ → List ℕ → ℕ → ℕ → ℕ
-pixelsNumber lo hi f line n given =
-    first (lineRefusal f lo hi n (length line)) (readRefusal (checkStart f) (layoutOf n) (bitsOf line) given (layoutOf n .count))
-
-unfoldable pub pixelsLeft : ℕ → ℕ → ℕ → List ℕ → ℕ → List ℕ → List ℕ
-pixelsLeft lo hi f line n out = kept (pixelsNumber lo hi f line n (length out)) out (pixelsOf (layoutOf n) (bitsOf line) ++ drop (layoutOf n .count) out)
-
--- ---- joined
-
--- channel 1 to 3: its upper part is sector 2 to 4, its lower one sector 9 to 11
-abbrev pub upperOf : ℕ → Layout
-upperOf channel = layoutOf (channel + 1)
-
-abbrev pub lowerOf : ℕ → Layout
-lowerOf channel = layoutOf (channel + 8)
-
--- 1, 4, 2, 3, the upper sector's 5 and 6, the lower one's 5 and 6
-unfoldable pub joinedNumber : ℕ → List ℕ → ℕ → ℕ → ℕ
-joinedNumber f line channel given =
-    first (lineRefusal f 1 3 channel (length line))
-    (first (readRefusal (checkStart f) (upperOf channel) (bitsOf line) given (upperOf channel .count)) (answerOf (checkStart f) (lowerOf channel) (bitsOf line)))
-
-unfoldable pub joinedLeft : ℕ → List ℕ → ℕ → List ℕ → List ℕ
-joinedLeft f line channel out =
-    kept (joinedNumber f line channel (length out)) out
-    (joinedOf (pixelsOf (upperOf channel) (bitsOf line)) (pixelsOf (lowerOf channel) (bitsOf line)) ++ drop (upperOf channel .count) out)
+-- the answer of each sector from 1 to 12; a refusal has 0 for all twelve
+unfoldable pub answersAnswer : ℕ → List ℕ → Twelve
+answersAnswer f line = record {
+  refused = answersRefusal f (length line);
+  answers = kept (answersRefusal f (length line)) (replicate 12 0) (answersOf (checkStart f) (bitsOf line));
+}

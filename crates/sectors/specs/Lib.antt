@@ -2,4 +2,3 @@ pub mod Layout
 pub mod Asked
 pub mod Sector
 pub mod Calls
-pub mod Strip

@@ -2,18 +2,14 @@
 -- table, `l`; the check begins from a start value. Assumes nothing.
 use Prim.Native.Nat.{ℕ, _+_, _*_}
 use mathlib.Core.Bool.{not}
-use mathlib.Core.List.{List, [], _∷_, _++_}
+use mathlib.Core.List.{List, [], _∷_, _++_, map}
 use lib.Dec.{eqb}
-use lib.ListN.{take, drop, replicate}
-use Rattle.bits.specs.Bits.{numberOf, setBits, fieldsOf}
+use lib.ListN.{replicate}
+use Rattle.refusals.specs.Refusals.{first, when}
+use Rattle.bits.specs.Bits.{stretch, numberOf, setBits, fieldsOf}
 use Rattle.crc.specs.Remainder.{remainderOf}
 use Rattle.sectors.specs.declared.layout.Layout.{Layout}
-use Rattle.sectors.specs.Layout.{dataAt, fillerAt, coveredBits, fillerBits, bytesOf, spareOf}
-use Rattle.sectors.specs.Asked.{first, when}
-
--- bits of a line from a place on
-unfoldable pub stretch : List ℕ → ℕ → ℕ → List ℕ
-stretch b at n = take n (drop at b)
+use Rattle.sectors.specs.Layout.{sectors, dataAt, fillerAt, coveredBits, fillerBits, bytesOf, spareOf}
 
 -- ---- the check
 
@@ -28,6 +24,10 @@ idOf l b = numberOf (stretch b (l .start) (l .«id_bits»))
 -- accepted: 0. 5 where the remainder is not 0, and then 6 where the ID is not the sector's own
 unfoldable pub answerOf : ℕ → Layout → List ℕ → ℕ
 answerOf start l b = first (when (not (eqb (remainderOf start (coveredOf l b)) 0)) 5) (when (not (eqb (idOf l b) (l .id))) 6)
+
+-- the answer of each sector of the table, from 1 to 12
+unfoldable pub answersOf : ℕ → List ℕ → List ℕ
+answersOf start b = map (λ (l : Layout). answerOf start l b) sectors
 
 -- how many of the 2,048 filler bits are set
 unfoldable pub fillerOf : Layout → List ℕ → ℕ

@@ -20,7 +20,7 @@ pub const CHECK_BITS: usize = 16;
 
 pub const FILLER_BITS: usize = 2048;
 
-// The ID of a sector.
+// Inner. The ID of a sector.
 fn id_of(sector: u8) -> u16
     requires { ⌜ (1 ≤ sector) × (sector ≤ 12) ⌝ }
     ensures { λ r. ⌜ r ≡ layoutOf sector .id ⌝ }

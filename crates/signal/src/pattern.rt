@@ -12,7 +12,6 @@
 //
 // Pixel j, from 0, of sector s, w bits wide: (j (2 s + k + 1) + j / 3 + 5 s + k) % 2^w.
 ghost use Prim.Native.Nat.{_+_, _*_, _≤_, _<_};
-ghost use lib.ListN.{length};
 
 // Two decimal digits as a byte.
 fn bcd(v: u64) -> u8 {

@@ -1,44 +1,29 @@
 -- Laying a line down: SYNC, the plain line and zeros for the dummy one behind the other, and then line and dummy put on
 -- the wire together. Assumes nothing.
 use mathlib.Core.Path.{_≡_, refl, sym, ap, ap₂, _∙_}
-use mathlib.Core.List.{List, [], _∷_, _++_, append-assoc}
-use Prim.Native.Nat.{ℕ, zero, suc, _+_, _*_, _/_, _≤_, _<_}
-use native.Mathlib.Nat.{zero-add, add-mul}
+use mathlib.Core.List.{List, _++_, append-assoc}
+use Prim.Native.Nat.{ℕ, _+_, _*_, _/_, _≤_}
+use native.Mathlib.Nat.{zero-add}
 use native.Mathlib.Omega.{arith}
 use lib.ListN.{length, take, drop, replicate, length-append, length-replicate}
 use lib.Seq.{take-at, drop-at, drop-drop, length-take-le}
-use Rattle.bits.specs.Bits.{bitsOf, part}
-use Rattle.bits.proofs.Bytes.{length-bits, bits-append, bits-take, bits-drop}
-use Rattle.bits.proofs.Zeros.{packed-zeros}
+use Rattle.bits.specs.Bits.{bitsOf, stretch, part}
+use Rattle.bits.proofs.Bytes.{length-bits}
+use Rattle.bits.proofs.Stretches.{put-behind}
+use Rattle.bits.proofs.Whole.{bytes-put, bits-zeros}
 use Rattle.formats.specs.Formats.{formatOf, informationBits, lineBytes}
-use Rattle.formats.specs.declared.Known.the-variants.{Is}
+use Rattle.formats.specs.declared.FormatAnswer.the-variants.{Is}
 use Rattle.formats.proofs.Which.{parts}
 use Rattle.formats.specs.declared.Format.{Format}
 use Rattle.scramble.specs.Register.{registerAfter, scramblingBits}
 use Rattle.scramble.specs.Sync.{SYNC, fifteenOnes}
-use Rattle.scramble.specs.Wire.{wireOf, informationOf, dummyOf}
-use Rattle.scramble.specs.Put.{beforeSync}
-use Rattle.scramble.proofs.Opening.{sync-from}
+use Rattle.scramble.specs.Wire.{wireOf}
+use Rattle.wire.specs.Parts.{informationOf, dummyOf}
+use Rattle.wire.proofs.Wire.{wire-append}
+use Rattle.sync.specs.Put.{beforeSync}
+use Rattle.sync.proofs.Opening.{sync-from}
 use Rattle.scramble.proofs.Steps.{length-scrambling}
-use Rattle.scramble.proofs.Wire.{wire-append}
 use Rattle.writer.specs.Wire.{onWire}
-
--- ---- in list words: p stands at the front of what was b, and t is put behind it
-pub put-behind : (b p t : List ℕ) (m k : ℕ) → length p ≡ m → take m (p ++ drop m b) ++ t ++ drop (m + k) (p ++ drop m b) ≡ (p ++ t) ++ drop (m + k) b
-put-behind b p t m k l =
-    ap₂ (λ (x y : List ℕ). x ++ t ++ y) (take-at p (drop m b) m l)
-    (sym (drop-drop k m (p ++ drop m b)) ∙ ap (drop k) (drop-at p (drop m b) m l) ∙ drop-drop k m b)
-
--- bytes put at a byte place, in bits
-pub bytes-put : (o t : List ℕ) (at n : ℕ) → bitsOf (take at o ++ t ++ drop (at + n) o) ≡ take (at * 8) (bitsOf o) ++ bitsOf t ++ drop (at * 8 + n * 8) (bitsOf o)
-bytes-put o t at n =
-    bits-append (take at o ++ t) (drop (at + n) o)
-    ∙ ap₂ (λ (x y : List ℕ). x ++ y) (bits-append (take at o) t ∙ ap (λ (x : List ℕ). x ++ bitsOf t) (sym (bits-take o at)))
-    (sym (bits-drop o (at + n)) ∙ ap (λ (k : ℕ). drop k (bitsOf o)) (add-mul at n 8))
-
-bits-zeros : (n : ℕ) → bitsOf (replicate n 0) ≡ replicate (n * 8) 0
-unfolding bitsOf
-bits-zeros n = packed-zeros 8 n
 
 -- ---- the four steps, s SYNC bits, the line l of i bits and d dummy bits
 module _ (b sync l : List ℕ) (s i d : ℕ) (sync-long : length sync ≡ s) (line-long : length l ≡ i) where
@@ -53,7 +38,7 @@ module _ (b sync l : List ℕ) (s i d : ℕ) (sync-long : length sync ≡ s) (li
   pub mixed-down : (o : List ℕ) → bitsOf o ≡ ((sync ++ l) ++ replicate d 0) ++ drop (s + i + d) b
       → take s (bitsOf o) ++ wireOf 0 fifteenOnes (part o s (i + d)) ++ drop (s + (i + d)) (bitsOf o)
       ≡ (sync ++ wireOf 0 fifteenOnes l ++ wireOf i (registerAfter i fifteenOnes) (replicate d 0)) ++ drop (s + i + d) b
-  unfolding part plain
+  unfolding part stretch plain
   mixed-down o e =
       let rest : List ℕ = drop (s + i + d) b in
       let cut : bitsOf o ≡ sync ++ ((l ++ replicate d 0) ++ rest) =
@@ -70,15 +55,21 @@ module _ (b sync l : List ℕ) (s i d : ℕ) (sync-long : length sync ≡ s) (li
       ∙ ap (λ (x : List ℕ). (sync ++ x) ++ rest) wire
       ∙ ap (λ (x : List ℕ). x ++ rest) (sym (append-assoc sync (wireOf 0 fifteenOnes l) (wireOf i (registerAfter i fifteenOnes) (replicate d 0))))
 
+-- one line on the wire, in words of scrambling
+pub on-wire-is : (f : Format) (l : List ℕ)
+    → onWire f l ≡ SYNC (f .sync) ++ wireOf 0 fifteenOnes l ++ wireOf informationBits (registerAfter informationBits fifteenOnes) (replicate (f .dummy) 0)
+unfolding onWire informationOf dummyOf
+on-wire-is f l = refl
+
 -- THE LINE LAID DOWN: o₀ before, o₁ with SYNC, o₂ with the plain line, o₃ with the dummy's zeros, o₄ with both on the wire
 pub laid : (n r : ℕ) (f : Format) (line o₀ o₁ o₂ o₃ o₄ : List ℕ) → formatOf n ≡ Is f → lineBytes ≤ length line
-    → r ≡ beforeSync (f .number)
+    → r ≡ beforeSync (f .sync)
     → bitsOf o₁ ≡ take 0 (bitsOf o₀) ++ scramblingBits (f .sync) r ++ drop (0 + f .sync) (bitsOf o₀)
-    → o₂ ≡ take (f .sync / 8) o₁ ++ take lineBytes line ++ drop (f .sync / 8 + lineBytes) o₁
+    → o₂ ≡ take (f .sync / 8) o₁ ++ stretch line 0 lineBytes ++ drop (f .sync / 8 + lineBytes) o₁
     → o₃ ≡ take (f .sync / 8 + lineBytes) o₂ ++ replicate (f .dummy / 8) 0 ++ drop (f .sync / 8 + lineBytes + f .dummy / 8) o₂
     → bitsOf o₄ ≡ take (f .sync) (bitsOf o₃) ++ wireOf 0 fifteenOnes (part o₃ (f .sync) (informationBits + f .dummy)) ++ drop (f .sync + (informationBits + f .dummy)) (bitsOf o₃)
     → bitsOf o₄ ≡ onWire f (bitsOf (take lineBytes line)) ++ drop (f .bytes * 8) (bitsOf o₀)
-unfolding onWire informationOf dummyOf
+unfolding stretch
 laid n r f line o₀ o₁ o₂ o₃ o₄ known whole er e₁ e₂ e₃ e₄ =
     let p = parts n f known in
     let s : ℕ = f .sync in
@@ -105,3 +96,4 @@ laid n r f line o₀ o₁ o₂ o₃ o₄ known whole er e₁ e₂ e₃ e₄ =
     let total : s + informationBits + d ≡ f .bytes * 8 = omega (arith, p .all) in
     e₄ ∙ mixed-down b (SYNC s) l s informationBits d sync-long line-long o₃ b₃
     ∙ ap (λ (k : ℕ). (SYNC s ++ wireOf 0 fifteenOnes l ++ wireOf informationBits (registerAfter informationBits fifteenOnes) (replicate d 0)) ++ drop k b) total
+    ∙ ap (λ (x : List ℕ). x ++ drop (f .bytes * 8) b) (sym (on-wire-is f l))

@@ -1,45 +1,54 @@
--- The ways of `write_line`: refused for its format, for a short line, for a short output, and done. Assumes nothing.
-use mathlib.Core.Path.{_≡_, refl, sym, ap, ap₂, _∙_}
-use mathlib.Core.Bool.{Bool, true, false, cond}
+-- The ways of `write_line`: refused for its format, refused for a short line or a short output, and done. Assumes nothing.
+use mathlib.Core.Path.{_≡_, sym, ap, ap₂, _∙_, subst}
 use mathlib.Core.List.{List, _++_}
-use Prim.Native.Nat.{ℕ, _+_, _*_, _/_, _≤_, _<_}
+use Prim.Native.Nat.{ℕ, _+_, _*_, _≤_}
 use native.Mathlib.Omega.{arith}
-use borrow.Author.Tests.{le-leb, lt-leb}
-use lib.Dec.{leb}
-use lib.ListN.{length, take, drop, length-append, length-replicate}
+use lib.ListN.{length, take, drop, replicate, length-append, length-replicate}
 use lib.Seq.{length-take-le}
-use Rattle.bits.specs.Bits.{bitsOf, fieldsOf, Below}
+use Rattle.bits.specs.Bits.{bitsOf, Below}
 use Rattle.bits.proofs.Below.{below-append, below-drop}
 use Rattle.bits.proofs.Bytes.{length-bits, bits-drop}
 use Rattle.bits.proofs.Fields.{bytes-front}
-use Rattle.formats.specs.Formats.{formatOf, informationBits, lineBytes}
+use Rattle.refusals.specs.Refusals.{first, shortOf}
+use Rattle.refusals.proofs.Words.{first-none, none-first, none-second, enough, kept-some, kept-none, refused}
+use Rattle.refusals.proofs.Given.{given-some, given-none}
+use Rattle.formats.specs.Formats.{formatOf, formatRefusal, informationBits, lineBytes}
 use Rattle.formats.specs.declared.Format.{Format}
-use Rattle.formats.specs.declared.Known.the-variants.{Is, Refused}
-use Rattle.formats.proofs.Which.{parts}
-use Rattle.scramble.specs.Sync.{SYNC, registerBefore, fifteenOnes}
-use Rattle.scramble.specs.Wire.{wireOf, informationOf, dummyOf}
+use Rattle.formats.specs.declared.FormatAnswer.the-variants.{Is, Refused}
+use Rattle.formats.proofs.Which.{parts, is-known, is-unknown, named-by, some-number}
+use Rattle.scramble.specs.Sync.{SYNC, fifteenOnes}
+use Rattle.scramble.specs.Register.{registerAfter}
+use Rattle.scramble.specs.Wire.{wireOf}
 use Rattle.scramble.proofs.Steps.{length-scrambling, scrambling-below}
-use Rattle.scramble.proofs.Wire.{length-wire, wire-below}
-use Rattle.writer.specs.Wire.{onWire, wireBytes, writtenIn, outputIn, writtenOf, outputOf}
+use Rattle.scramble.proofs.Wire.{length-wire}
+use Rattle.wire.proofs.Wire.{wire-below}
+use Rattle.writer.specs.Wire.{onWire, wireBytes, writeLineRefusal, writeLineAnswer, writeLineLeft}
 use Rattle.writer.specs.declared.Written.{Written}
 use Rattle.writer.specs.declared.Written.the-variants as written
+use Rattle.writer.proofs.Laying.{on-wire-is}
 
 -- ---- one line on the wire is a whole number of bytes
 
+-- the dummy
+abbrev zeros : ℕ → List ℕ
+zeros n = wireOf informationBits (registerAfter informationBits fifteenOnes) (replicate n 0)
+
 pub length-on-wire : (f : Format) (bits : List ℕ) → length (onWire f bits) ≡ f .sync + length bits + f .dummy
-unfolding onWire SYNC informationOf dummyOf
+unfolding SYNC
 length-on-wire f bits =
-    length-append (SYNC (f .sync) ++ informationOf bits) (dummyOf informationBits (f .dummy))
+    ap length (on-wire-is f bits)
+    ∙ length-append (SYNC (f .sync) ++ wireOf 0 fifteenOnes bits) (zeros (f .dummy))
     ∙ ap₂ (λ (x y : ℕ). x + y)
-    (length-append (SYNC (f .sync)) (informationOf bits) ∙ ap₂ (λ (x y : ℕ). x + y) (length-scrambling (f .sync) _) (length-wire 0 fifteenOnes bits))
+    (length-append (SYNC (f .sync)) (wireOf 0 fifteenOnes bits) ∙ ap₂ (λ (x y : ℕ). x + y) (length-scrambling (f .sync) _) (length-wire 0 fifteenOnes bits))
     (length-wire informationBits _ _ ∙ length-replicate (f .dummy) 0)
 
 pub on-wire-below : (f : Format) (bits : List ℕ) → Below 2 (onWire f bits)
-unfolding onWire SYNC informationOf dummyOf
+unfolding SYNC
 on-wire-below f bits =
-    below-append 2 (SYNC (f .sync) ++ informationOf bits) (dummyOf informationBits (f .dummy))
-    (below-append 2 (SYNC (f .sync)) (informationOf bits) (scrambling-below (f .sync) _) (wire-below 0 fifteenOnes bits))
-    (wire-below informationBits _ _)
+    subst (Below 2) (sym (on-wire-is f bits))
+    (below-append 2 (SYNC (f .sync) ++ wireOf 0 fifteenOnes bits) (zeros (f .dummy))
+    (below-append 2 (SYNC (f .sync)) (wireOf 0 fifteenOnes bits) (scrambling-below (f .sync) _) (wire-below 0 fifteenOnes bits))
+    (wire-below informationBits _ _))
 
 -- the bits of a line's bytes
 pub line-bits : (line : List ℕ) → lineBytes ≤ length line → length (bitsOf (take lineBytes line)) ≡ informationBits
@@ -57,36 +66,50 @@ wire-whole n f line e h =
 
 module _ (n : ℕ) (line out : List ℕ) where
   abbrev Gives : Written → List ℕ → Type 0
-  Gives r after = (r ≡ writtenOf n line out) × (after ≡ outputOf n line out)
+  Gives r after = (r ≡ writeLineAnswer n line out) × (after ≡ writeLineLeft n line out)
 
-  pub write-refused : (k : ℕ) → formatOf n ≡ Refused k → Gives (written.Refused k) out
-  unfolding writtenOf outputOf writtenIn outputIn
-  write-refused k e = (sym (ap (λ x. writtenIn x line out) e), sym (ap (λ x. outputIn x line out) e))
+  abbrev refusal : ℕ
+  refusal = writeLineRefusal n (length line) (length out)
 
-  module _ (f : Format) (e : formatOf n ≡ Is f) where
-    pub write-short-line : length line < lineBytes → Gives (written.Refused 2) out
-    unfolding writtenOf outputOf writtenIn outputIn
-    write-short-line h =
-        let t : leb lineBytes (length line) ≡ false = lt-leb lineBytes (length line) h in
-        (sym (ap (λ x. writtenIn x line out) e ∙ rw t), sym (ap (λ x. outputIn x line out) e ∙ rw t))
+  -- refused with r
+  turned-away : (r : ℕ) → r ≡ refusal → (r ≡ 0 → ⊥) → Gives (written.Refused r) out
+  unfolding writeLineAnswer writeLineLeft
+  turned-away r e h = (given-some written.Refused r refusal _ e h, sym (kept-some refusal out _ (λ z. h (e ∙ z))))
 
-    module _ (h : lineBytes ≤ length line) where
-      t : leb lineBytes (length line) ≡ true
-      t = le-leb lineBytes (length line) h
+  pub write-unknown : (k : ℕ) → formatOf n ≡ Refused k → Gives (written.Refused k) out
+  unfolding writeLineRefusal
+  write-unknown k e = let some = some-number n k e in turned-away k (refused k (formatRefusal n) _ (sym (is-unknown n k e)) some) some
 
-      pub write-short-output : length out < f .bytes → Gives (written.Refused 3) out
-      unfolding writtenOf outputOf writtenIn outputIn
-      write-short-output k =
-          let u : leb (f .bytes) (length out) ≡ false = lt-leb (f .bytes) (length out) k in
-          (sym (ap (λ x. writtenIn x line out) e ∙ rw (t, u)), sym (ap (λ x. outputIn x line out) e ∙ rw (t, u)))
+  module _ (f : Format) (e : formatOf n ≡ Is f) (r : ℕ) (short : r ≡ first (shortOf (length line) lineBytes 2) (shortOf (length out) (f .bytes) 3)) where
+    number : r ≡ refusal
+    unfolding writeLineRefusal
+    number =
+        short
+        ∙ ap (λ (g : Format). first (shortOf (length line) lineBytes 2) (shortOf (length out) (g .bytes) 3)) (sym (named-by n f e))
+        ∙ sym (first-none (formatRefusal n) _ (is-known n f e))
 
-      pub write-done : (after : List ℕ) → f .bytes ≤ length out → Below 256 out → Below 256 after
+    pub write-short : (r ≡ 0 → ⊥) → Gives (written.Refused r) out
+    write-short = turned-away r number
+
+    module _ (z : r ≡ 0) where
+      none : first (shortOf (length line) lineBytes 2) (shortOf (length out) (f .bytes) 3) ≡ 0
+      none = sym short ∙ z
+
+      pub line-whole : lineBytes ≤ length line
+      line-whole = enough (length line) lineBytes 2 (λ w. omega arith) (none-first _ _ none)
+
+      pub output-room : f .bytes ≤ length out
+      output-room = enough (length out) (f .bytes) 3 (λ w. omega arith) (none-second _ _ none)
+
+      pub write-done : (after : List ℕ) → Below 256 out → Below 256 after
           → bitsOf after ≡ onWire f (bitsOf (take lineBytes line)) ++ drop (f .bytes * 8) (bitsOf out) → Gives (written.Put (f .bytes)) after
-      unfolding writtenOf outputOf writtenIn outputIn wireBytes
-      write-done after k b b′ w =
-          let u : leb (f .bytes) (length out) ≡ true = le-leb (f .bytes) (length out) k in
+      unfolding writeLineAnswer writeLineLeft wireBytes
+      write-done after b b′ w =
+          let named = sym (named-by n f e) in
           let bits : List ℕ = onWire f (bitsOf (take lineBytes line)) in
-          let bytes : after ≡ fieldsOf 8 (f .bytes) bits ++ drop (f .bytes) out =
-          bytes-front (f .bytes) after bits (drop (f .bytes) out) b′ (below-drop 256 (f .bytes) out b) (wire-whole n f line e h) (on-wire-below f _)
-          (w ∙ ap (λ (l : List ℕ). bits ++ l) (bits-drop out (f .bytes))) in
-          (sym (ap (λ x. writtenIn x line out) e ∙ rw (t, u)), bytes ∙ sym (ap (λ x. outputIn x line out) e ∙ rw (t, u)))
+          let bytes : after ≡ wireBytes f line ++ drop (f .bytes) out =
+          bytes-front (f .bytes) after bits (drop (f .bytes) out) b′ (below-drop 256 (f .bytes) out b) (wire-whole n f line e line-whole) (on-wire-below f _)
+          (w ∙ ap (λ (l : List ℕ). bits ++ l) (bits-drop out (f .bytes))) in (
+            given-none written.Refused r refusal _ _ number z (ap (λ (g : Format). written.Put (g .bytes)) named),
+            bytes ∙ ap (λ (g : Format). wireBytes g line ++ drop (g .bytes) out) named ∙ sym (kept-none refusal out _ (sym number ∙ z)),
+          )

@@ -191,6 +191,14 @@ pub fn accepted(format_number: usize, line: &[u8], number: usize) -> Result<(), 
     test(line, sector)
 }
 
+/// What [`accepted`] says of each of the twelve sectors: 0, or 5 or 6. Refusals
+/// 1, 2.
+pub fn answers(format_number: usize, line: &[u8]) -> Result<[Refusal; 12], Refusal> {
+    format(format_number)?;
+    refuse_if(line.len() < LINE_BYTES, refusal::SHORT_INPUT)?;
+    Ok(std::array::from_fn(|i| judge(line, &SECTORS[i])))
+}
+
 /// How many filler bits of a sector are set. Refusals 1, 4, 2.
 pub fn filler(format_number: usize, line: &[u8], number: usize) -> Result<usize, Refusal> {
     format(format_number)?;

@@ -234,6 +234,33 @@ fn the_upper_sector_is_tested_before_the_lower() {
 }
 
 #[test]
+fn asking_of_all_twelve_sectors() {
+    every_set(&[1, 2], |faults| {
+        let line = line_with(faults, 1);
+        let given = sectors::answers(faults.pick(1, 3, 1), &line);
+        given.map(|answers| assert_eq!(answers, [0; 12]))
+    });
+}
+
+/// Each of the twelve answers is that of `accepted`.
+#[test]
+fn each_of_the_twelve_answers_is_its_sectors_own() {
+    for (damaged, renamed) in [(1, 2), (2, 9), (5, 12), (8, 7), (9, 11), (12, 1)] {
+        let mut line = good_line();
+        damage(&mut line, damaged);
+        give_wrong_id(&mut line, renamed);
+        let mut expected = [0; 12];
+        expected[damaged - 1] = 5;
+        expected[renamed - 1] = 6;
+        assert_eq!(sectors::answers(1, &line), Ok(expected));
+        for sector in 1..=12 {
+            let own = sectors::accepted(1, &line, sector).err().unwrap_or(0);
+            assert_eq!(own, expected[sector - 1]);
+        }
+    }
+}
+
+#[test]
 fn filling_the_visible_strip() {
     every_set(&[1, 2, 3], |faults| {
         let line = line_with(faults, 5);

@@ -1,4 +1,4 @@
-//! The 39 calls by name.
+//! The 40 calls by name.
 
 /// The calls in the header's order.
 #[derive(Clone, Copy, Debug, PartialEq, Eq)]
@@ -11,6 +11,7 @@ pub enum Name {
     Read,
     WriteLine,
     Accepted,
+    Answers,
     Filler,
     Data,
     Pixels,

@@ -1,11 +1,11 @@
-//! The 39 calls as the header declares them. `tests/rows.rs` holds this table
+//! The 40 calls as the header declares them. `tests/rows.rs` holds this table
 //! to the header's own text.
 
 pub use crate::names::Name;
 use crate::shapes::*;
 
 /// How many calls there are.
-pub const CALLS: usize = 39;
+pub const CALLS: usize = 40;
 
 /// All refusals, in the order in which they are tested.
 pub const ORDER: [u8; 12] = [1, 12, 4, 10, 11, 2, 3, 5, 6, 7, 8, 9];
@@ -82,6 +82,7 @@ pub const ROWS: [Row; CALLS] = [
     row(Name::Read, "read", READING, &[PIECE, LINE_WRITTEN], READ, &[1, 12, 2]),
     row(Name::WriteLine, "write_line", FORMAT, &[LINE, OUT], COUNT, &[1, 2, 3]),
     row(Name::Accepted, "accepted", SECTOR, &[LINE], ALONE, &[1, 4, 2, 5, 6]),
+    row(Name::Answers, "answers", FORMAT, &[LINE], TWELVE, &[1, 2]),
     row(Name::Filler, "filler", SECTOR, &[LINE], COUNT, &[1, 4, 2]),
     row(Name::Data, "data", SECTOR, &[LINE, OUT], ALONE, DECODED),
     row(Name::Pixels, "pixels", SECTOR, &[LINE, OUT], ALONE, DECODED),

@@ -94,6 +94,21 @@ pub const READ: Fields = &[
     "waiting",
     "waiting_count",
 ];
+pub const TWELVE: Fields = &[
+    "refused",
+    "answers[0]",
+    "answers[1]",
+    "answers[2]",
+    "answers[3]",
+    "answers[4]",
+    "answers[5]",
+    "answers[6]",
+    "answers[7]",
+    "answers[8]",
+    "answers[9]",
+    "answers[10]",
+    "answers[11]",
+];
 pub const PARTS: Fields = &["refused", "vis[0]", "vis[1]", "vis[2]", "vis[3]"];
 pub const VALUE: Fields = &["refused", "value"];
 pub const REAL: Fields = &["refused", "negative", "places", "magnitude"];

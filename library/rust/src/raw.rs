@@ -66,6 +66,13 @@ pub struct ReadAnswer {
 
 #[repr(C)]
 #[derive(Clone, Copy, Debug, Default, PartialEq, Eq)]
+pub struct TwelveAnswer {
+    pub refused: u8,
+    pub answers: [u8; 12],
+}
+
+#[repr(C)]
+#[derive(Clone, Copy, Debug, Default, PartialEq, Eq)]
 pub struct StripAnswer {
     pub refused: u8,
     pub vis: [u8; 4],
@@ -203,6 +210,7 @@ extern "C" {
 // The twelve sectors of a plain line.
 extern "C" {
     pub fn hansobrik_accepted(format: u8, line: *const u8, line_count: usize, sector: u8) -> u8;
+    pub fn hansobrik_answers(format: u8, line: *const u8, line_count: usize) -> TwelveAnswer;
     pub fn hansobrik_filler(
         format: u8,
         line: *const u8,

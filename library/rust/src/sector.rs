@@ -10,6 +10,15 @@ pub fn accepted(format: u8, line: &[u8], sector: u8) -> Result<(), Refusal> {
     unless(a, ())
 }
 
+/// What [`accepted`] says of each of the twelve sectors, each divided once.
+/// Refused with 1, 2; of each sector that is not accepted its refusal, 5 or 6,
+/// is given.
+pub fn answers(format: u8, line: &[u8]) -> Result<[Result<(), Refusal>; 12], Refusal> {
+    // SAFETY: the pointer and the count are those of one slice.
+    let a = unsafe { raw::hansobrik_answers(format, line.as_ptr(), line.len()) };
+    unless(a.refused, a.answers.map(|number| unless(number, ())))
+}
+
 /// The filler bits of a sector that are set. Refused with 1, 4, 2.
 pub fn filler(format: u8, line: &[u8], sector: u8) -> Result<usize, Refusal> {
     // SAFETY: the pointer and the count are those of one slice.

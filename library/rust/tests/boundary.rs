@@ -242,6 +242,9 @@ fn refused_calls_leave_their_buffers() {
 
     let mut visible = bytes[..STRIP_BYTES].to_vec();
     assert_eq!(strip(1, &no_ids, &mut visible), Ok([Err(Refusal::ID); 4]));
+    let mut twelve = [Err(Refusal::ID); 12];
+    twelve[0] = Ok(()); // the ID of DOC is zero
+    assert_eq!(answers(1, &no_ids), Ok(twelve));
     assert!(visible == bytes[..STRIP_BYTES]);
     let mut register = 0x8000;
     assert_eq!(step(&mut register), Err(Refusal::STATE));
@@ -289,6 +292,7 @@ fn empty_slices_are_looked_at_by_nobody() {
     assert_eq!(write_line(1, &[], &mut []), Err(Refusal::SHORT_INPUT));
     assert_eq!(put_sync(2, &mut []), Err(Refusal::SHORT_OUTPUT));
     assert_eq!(accepted(1, &[], 1), Err(Refusal::SHORT_INPUT));
+    assert_eq!(answers(1, &[]), Err(Refusal::SHORT_INPUT));
     assert_eq!(filler(1, &[], 1), Err(Refusal::SHORT_INPUT));
     assert_eq!(
         joined(1, &line_of_zeros(1), 1, &mut []),

@@ -32,6 +32,7 @@ fn records_have_the_layout_of_the_header() {
     laid_out!(StepAnswer, 4, 2, { refused: 0, bit: 1, register: 2 });
     laid_out!(CountAnswer, 16, 8, { refused: 0, count: 8 });
     laid_out!(ReadAnswer, 40, 8, { refused: 0, complete: 1, taken: 8, state: 16 });
+    laid_out!(TwelveAnswer, 13, 1, { refused: 0, answers: 1 });
     laid_out!(StripAnswer, 5, 1, { refused: 0, vis: 1 });
     laid_out!(IntegerAnswer, 8, 4, { refused: 0, value: 4 });
     laid_out!(BcdAnswer, 16, 8, { refused: 0, value: 8 });

@@ -1,11 +1,10 @@
 -- `crc::through` meets its contract. Assumes nothing.
-use mathlib.Core.Path.{_≡_, refl, sym, ap, _∙_}
-use Prim.Native.Nat.{ℕ, _+_, _-_, _*_, _/_, _%_, _^_, _≤_}
-use native.Mathlib.Nat.{mul-one, mod-eq-of-lt}
+use mathlib.Core.Path.{_≡_, refl}
+use Prim.Native.Nat.{_-_, _*_, _%_, _^_, _≤_}
 use native.Mathlib.Omega.{arith}
 use borrow.Author.Needs.{needs}
 use denote.Ref.{now}
-use Rattle.bits.specs.Bits.{part, through}
+use Rattle.bits.specs.Bits.{part, stretch, through}
 use Rattle.crc.specs.Remainder.{remainderOf, preset}
 use Rattle.crc.proofs.Turn.{start-more, part-turn}
 use Rattle.crc.proofs.through.Statement.{statement}
@@ -18,7 +17,7 @@ abbrev μ-loop : tie.MeasureT-loop
 μ-loop start s from count a₀ i₀ a i = count - i
 
 loop-holds : tie.Need-loop-holds Inv-loop μ-loop
-unfolding remainderOf part preset through
+unfolding remainderOf part stretch preset through
 loop-holds c = (search needs, refl, omega (arith, c .before .fits .start))
 
 add-bit-at : tie.Need-add-bit-at Inv-loop μ-loop

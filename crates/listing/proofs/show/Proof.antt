@@ -1,32 +1,23 @@
 -- `listing::show` is safe and ends. Assumes nothing.
-use Prim.Native.Nat.{ℕ, _+_, _*_, _-_, _≤_, _<_}
-use mathlib.Core.Path.{_≡_}
-use native.Mathlib.Omega.{arith}
+use Prim.Native.Nat.{_-_, _≤_}
 use borrow.Author.Needs.{needs}
-use lib.ListN.{length}
 use Rattle.listing.proofs.show.Statement.{statement}
 use Rattle.listing.proofs.show.Tie as tie
 
 abbrev Inv-loop : tie.InvT-loop
-Inv-loop format number line goods₀ fillers₀ sector₀ t7 t8 t9 t10 goods fillers sector = (sector ≤ 13)
+Inv-loop format number line fillers₀ sector₀ t6 t7 t8 t9 fillers sector = (sector ≤ 13)
 
 abbrev μ-loop : tie.MeasureT-loop
-μ-loop format number line goods₀ fillers₀ sector₀ t7 t8 t9 t10 goods fillers sector = 13 - sector
+μ-loop format number line fillers₀ sector₀ t6 t7 t8 t9 fillers sector = 13 - sector
 
 loop-holds : tie.Need-loop-holds Inv-loop μ-loop
 loop-holds c = search needs
 
-good-requires : tie.Need-good-requires Inv-loop μ-loop
-good-requires c κs = search needs
-
-wrapping-add-u64-requires : tie.Need-wrapping-add-u64-requires Inv-loop μ-loop
-wrapping-add-u64-requires c κs = search needs
-
 filler-requires : tie.Need-filler-requires Inv-loop μ-loop
 filler-requires c κs = search needs
 
-wrapping-add-u64-requires-2 : tie.Need-wrapping-add-u64-requires-2 Inv-loop μ-loop
-wrapping-add-u64-requires-2 c κs = search needs
+wrapping-add-u64-requires : tie.Need-wrapping-add-u64-requires Inv-loop μ-loop
+wrapping-add-u64-requires c κs = search needs
 
 add-sector : tie.Need-add-sector Inv-loop μ-loop
 add-sector c = search needs
@@ -51,6 +42,9 @@ slice-aggregate-write-all-2 c = search needs
 
 write-all-requires-2 : tie.Need-write-all-requires-2 Inv-loop μ-loop
 write-all-requires-2 c κs = search needs
+
+goods-requires : tie.Need-goods-requires Inv-loop μ-loop
+goods-requires c κs = search needs
 
 print-decimal-requires-2 : tie.Need-print-decimal-requires-2 Inv-loop μ-loop
 print-decimal-requires-2 c κs = search needs
@@ -80,10 +74,8 @@ show-spec =
     Inv-loop
     μ-loop
     loop-holds
-    good-requires
-    wrapping-add-u64-requires
     filler-requires
-    wrapping-add-u64-requires-2
+    wrapping-add-u64-requires
     add-sector
     loop-less
     loop-again
@@ -92,6 +84,7 @@ show-spec =
     print-decimal-requires
     slice-aggregate-write-all-2
     write-all-requires-2
+    goods-requires
     print-decimal-requires-2
     slice-aggregate-write-all-3
     write-all-requires-3

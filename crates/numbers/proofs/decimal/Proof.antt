@@ -7,11 +7,12 @@ use native.Mathlib.Omega.{arith}
 use borrow.Author.Needs.{needs}
 use denote.Ref.{now}
 use lib.Dec.{lit<}
-use Rattle.bits.specs.Bits.{bitsOf, part, numberOf, inBase, fieldsOf, Below}
+use Rattle.refusals.specs.Refusals.{when, answered}
+use Rattle.bits.specs.Bits.{bitsOf, part, stretch, numberOf, inBase, fieldsOf, Below}
 use Rattle.bits.proofs.Below.{below-nil, below-cons, below-append}
 use Rattle.bits.proofs.Fields.{field-turn}
 use Rattle.numbers.specs.Decimals.{decimalOf}
-use Rattle.numbers.proofs.Base.{base-more, base-none, digit-fits}
+use Rattle.bits.proofs.Base.{base-more, base-none, digit-fits}
 use Rattle.numbers.proofs.Nines.{none-over, some-over}
 use Rattle.numbers.proofs.decimal.Statement.{statement}
 use Rattle.numbers.proofs.decimal.Tie as tie
@@ -34,7 +35,7 @@ field-requires : tie.Need-field-requires Inv-loop μ-loop
 field-requires c κs = search needs
 
 returns : tie.Need-returns Inv-loop μ-loop
-unfolding decimalOf part
+unfolding decimalOf answered when part stretch
 returns c =
     let at-loop = c .before .before .before in
     let args = at-loop .before .before .args in
@@ -76,7 +77,7 @@ loop-again c =
     )
 
 returns-2 : tie.Need-returns-2 Inv-loop μ-loop
-unfolding decimalOf
+unfolding decimalOf answered when
 returns-2 c =
     let at-loop = c .before in
     let args = at-loop .before .before .args in

@@ -1,18 +1,18 @@
 -- `scramble::mix` meets its contract: what is to stand in the part is known before the loop, and each turn puts one bit
 -- of it. Assumes nothing.
-use mathlib.Core.Path.{_≡_, sym, ap, _∙_}
-use Prim.Native.Nat.{ℕ, _+_, _-_, _*_, _/_, _%_, _^_, _≤_, _<_}
+use mathlib.Core.Path.{_≡_, ap, _∙_}
+use Prim.Native.Nat.{ℕ, _+_, _-_, _*_, _≤_, _<_}
 use native.Mathlib.Omega.{arith}
 use borrow.Author.Needs.{needs}
 use denote.Ref.{now}
 use lib.ListN.{length, getD}
 use lib.Seq.{paste, paste-zero}
-use lib.Bits.{bitXor, xor-lt}
 use Rattle.bits.specs.Bits.{bitsOf}
 use Rattle.bits.proofs.Bytes.{length-bits}
 use Rattle.bits.proofs.Writes.{paste-turn, paste-next, paste-done}
 use Rattle.scramble.specs.Register.{registerAfter}
-use Rattle.scramble.proofs.Steps.{newBit-lt}
+use Rattle.scramble.specs.Wire.{plainBit}
+use Rattle.scramble.proofs.Wire.{plain-lt}
 use Rattle.scramble.proofs.Turn.{register-turn, target, target-is, target-length, target-at}
 use Rattle.scramble.proofs.mix.Statement.{statement}
 use Rattle.scramble.proofs.mix.Tie as tie
@@ -37,36 +37,27 @@ loop-holds c =
       search needs,
     )
 
-stepped-requires : tie.Need-stepped-requires Inv-loop μ-loop
-stepped-requires c κs = search needs
-
 add-bit-at : tie.Need-add-bit-at Inv-loop μ-loop
 add-bit-at c = search needs
 
 bit-at-requires : tie.Need-bit-at-requires Inv-loop μ-loop
 bit-at-requires c κs = search needs
 
+add-mix-bit : tie.Need-add-mix-bit Inv-loop μ-loop
+add-mix-bit c = search needs
+
+mix-bit-requires : tie.Need-mix-bit-requires Inv-loop μ-loop
+mix-bit-requires c κs = search needs
+
 add-put-bit : tie.Need-add-put-bit Inv-loop μ-loop
 add-put-bit c = search needs
 
-add-group-bit : tie.Need-add-group-bit Inv-loop μ-loop
-add-group-bit c = search needs
-
-group-bit-requires : tie.Need-group-bit-requires Inv-loop μ-loop
-group-bit-requires c κs = search needs
-
 put-bit-requires : tie.Need-put-bit-requires Inv-loop μ-loop
 put-bit-requires c κs =
-    let at-group = c .before in
-    let at-bit = at-group .before .before in
-    let at-step = at-bit .before .before in
-    let at-loop = at-step .before .before in
-    let b = at-bit .bit-at .result in
-    let g = at-group .group-bit .result in
-    let t = at-step .stepped .result .bit in
+    let at-mix = c .before in
+    let at-loop = at-mix .before .before .before .before in
     let here : at-loop .before .before .args .from + at-loop .loop .i < 8 * length (at-loop .loop .s) = omega arith in
-    let small : t < 2 = rw (at-step .stepped .ensures .1) (newBit-lt (at-loop .loop .reg .bits)) in
-    (here, xor-lt 1 (bitXor b g) t (xor-lt 1 b g (at-bit .bit-at .ensures .1) (at-group .group-bit .ensures .1)) small)
+    (here, rw (at-mix .mix-bit .ensures .1) (plain-lt _ _ _))
 
 add-i : tie.Need-add-i Inv-loop μ-loop
 add-i c = search needs
@@ -76,26 +67,25 @@ loop-less c = search needs
 
 loop-again : tie.Need-loop-again Inv-loop μ-loop
 loop-again c =
-    let at-group = c .before .before .before .before .before in
-    let at-bit = at-group .before .before in
-    let at-step = at-bit .before .before in
-    let at-loop = at-step .before .before in
+    let at-mix = c .before .before .before .before .before in
+    let at-bit = at-mix .before in
+    let in-loop = at-bit .before .before in
+    let at-loop = in-loop .before in
     let start = at-loop .before .before in
     let args = start .args in
     let s₀ = now (args .s) in
     let i = at-loop .loop .i in
     let r = args .r .bits in
     let b = at-bit .bit-at .result in
-    let g = at-group .group-bit .result in
-    let t = at-step .stepped .result .bit in
+    let t = at-mix .mix-bit .result .bit in
     let target₀ = target s₀ (args .from) (args .count) (args .place) r in
-    let more : i < args .count = at-step .before .loop-test .taken in
+    let more : i < args .count = in-loop .loop-test .taken in
     let in-bits : args .from + i < length (bitsOf s₀) = rw length-bits (omega (arith, start .pre .0)) in
     let in-target : i < length target₀ = rw (target-length s₀ (args .from) (args .count) (args .place) r (start .pre .0)) more in
     let here : b ≡ getD (bitsOf s₀) (args .from + i) 0 = cc (paste-next (bitsOf s₀) (args .from) target₀ i in-bits in-target) in
-    let value : bitXor (bitXor b g) t ≡ getD target₀ i 0 =
-    target-at s₀ (args .from) (args .count) (args .place) r (start .pre .0) i b g t more here (at-bit .bit-at .ensures .1) (at-group .group-bit .ensures .0) (cc) in
-    let turn = paste-turn (bitsOf s₀) (args .from) target₀ i (bitXor (bitXor b g) t) in-bits in-target value in
+    let value : t ≡ getD target₀ i 0 = target-at s₀ (args .from) (args .count) (args .place) r (start .pre .0) i b t more here
+    (at-mix .mix-bit .ensures .1 ∙ ap (λ (x : ℕ). plainBit (args .place + i) x b) (at-loop .loop .inv .3)) in
+    let turn = paste-turn (bitsOf s₀) (args .from) target₀ i t in-bits in-target value in
     (search needs, cc turn, search needs, cc (register-turn i r))
 
 same-length : tie.Need-same-length Inv-loop μ-loop
@@ -118,12 +108,11 @@ mix-spec =
     Inv-loop
     μ-loop
     loop-holds
-    stepped-requires
     add-bit-at
     bit-at-requires
+    add-mix-bit
+    mix-bit-requires
     add-put-bit
-    add-group-bit
-    group-bit-requires
     put-bit-requires
     add-i
     loop-less

@@ -1,9 +1,6 @@
 -- `signal::play` is safe and ends. Assumes nothing.
-use Prim.Native.Nat.{ℕ, _+_, _*_, _-_, _≤_, _<_}
-use mathlib.Core.Path.{_≡_}
-use native.Mathlib.Omega.{arith}
+use Prim.Native.Nat.{_-_, _≤_}
 use borrow.Author.Needs.{needs}
-use lib.ListN.{length}
 use Rattle.signal.proofs.play.Statement.{statement}
 use Rattle.signal.proofs.play.Tie as tie
 

@@ -1,5 +1,4 @@
 -- `writer::put_line` meets its contract: the four steps are those of `laid`. Assumes nothing.
-use mathlib.Core.Path.{_≡_}
 use native.Mathlib.Omega.{arith}
 use borrow.Author.Needs.{needs}
 use denote.Ref.{now}
@@ -21,15 +20,15 @@ put-scrambling-requires c κs =
     let room = start .pre .room in
     (omega (arith, p .sync-whole, p .all), omega (arith, p .sync-whole, p .all, p .small))
 
-put-bytes-requires : tie.Need-put-bytes-requires
-put-bytes-requires c κs =
+copy-requires : tie.Need-copy-requires
+copy-requires c κs =
     let start = c .before .before .before .before .before .before .before .before in
     let p = parts (start .pre .number) (start .args .f) (start .pre .known) in
     let room = start .pre .room in
     (start .pre .whole, omega (arith, p .sync-whole, p .all))
 
-put-zeros-requires : tie.Need-put-zeros-requires
-put-zeros-requires c κs =
+fill-requires : tie.Need-fill-requires
+fill-requires c κs =
     let start = c .before .before .before .before .before .before .before .before .before .before .before .before in
     let p = parts (start .pre .number) (start .args .f) (start .pre .known) in
     let room = start .pre .room in
@@ -60,7 +59,7 @@ returns c =
     let at-before = at-sync .before in
     let start = at-before .before .before .before .before in
     laid (start .pre .number) _ (start .args .f) (now (start .args .line)) (now (start .args .out)) _ _ _ _ (start .pre .known) (start .pre .whole)
-    (at-before .before-sync .ensures) (at-sync .put-scrambling .ensures .0) (at-bytes .put-bytes .ensures) (at-zeros .put-zeros .ensures) (at-mix .mix .ensures .0)
+    (at-before .before-sync .ensures) (at-sync .put-scrambling .ensures .0) (at-bytes .copy .ensures) (at-zeros .fill .ensures) (at-mix .mix .ensures .0)
 
 pub put-line-spec : {M : Type 1} → statement M
 put-line-spec =
@@ -69,8 +68,8 @@ put-line-spec =
     add-last
     before-sync-requires
     put-scrambling-requires
-    put-bytes-requires
-    put-zeros-requires
+    copy-requires
+    fill-requires
     add-mix
     mix-requires
     same-length

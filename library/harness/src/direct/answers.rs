@@ -60,6 +60,11 @@ pub fn read(a: ReadAnswer) -> Vec<u64> {
     [head, record(a.state)].concat()
 }
 
+pub fn twelve(a: TwelveAnswer) -> Vec<u64> {
+    let sectors = a.answers.map(u64::from);
+    [vec![a.refused.into()], sectors.to_vec()].concat()
+}
+
 pub fn strip(a: StripAnswer) -> Vec<u64> {
     let parts = a.vis.map(u64::from);
     [vec![a.refused.into()], parts.to_vec()].concat()

@@ -51,6 +51,7 @@ fn made(call: &Call, [one, two]: &[Guarded; 2]) -> Vec<u64> {
             Name::Read => read(hansobrik_read(b0, state(&n[1..]), p, c, q, d)),
             Name::WriteLine => count(hansobrik_write_line(b0, p, c, q, d)),
             Name::Accepted => alone(hansobrik_accepted(b0, p, c, b1)),
+            Name::Answers => twelve(hansobrik_answers(b0, p, c)),
             Name::Filler => count(hansobrik_filler(b0, p, c, b1)),
             Name::Data => alone(hansobrik_data(b0, p, c, b1, q, d)),
             Name::Pixels => alone(hansobrik_pixels(b0, p, c, b1, q, d)),

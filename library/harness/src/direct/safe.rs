@@ -87,11 +87,18 @@ fn step(step: safe::Step) -> Vec<u64> {
     vec![step.bit.into(), step.register.into()]
 }
 
+/// The number of each sector's answer, 0 where it is accepted.
+fn numbers<const N: usize>(sectors: [Result<(), Refusal>; N]) -> Vec<u64> {
+    let number = |sector: Result<(), Refusal>| sector.err().map_or(0, |refusal| refusal.0);
+    sectors.map(|sector| number(sector).into()).to_vec()
+}
+
 fn of_one(name: Name, n: &[u64], lent: &mut Lent) -> Answer {
     match name {
         Name::Step => safe::step(&mut lent.words_mut()[0]).map(step),
         Name::PutSync => safe::put_sync(n[0] as u8, lent.bytes_mut()).map(count),
         Name::Accepted => safe::accepted(n[0] as u8, lent.bytes(), n[1] as u8).map(none),
+        Name::Answers => safe::answers(n[0] as u8, lent.bytes()).map(numbers),
         Name::Filler => safe::filler(n[0] as u8, lent.bytes(), n[1] as u8).map(count),
         Name::ReadInteger => safe::read_integer(lent.bytes(), n[0] as usize).map(integer),
         Name::ReadBcd => safe::read_bcd(lent.bytes(), n[0] as usize).map(bcd),
@@ -199,10 +206,7 @@ fn of_two(name: Name, n: &[u64], one: &mut Lent, two: &mut Lent) -> Answer {
             safe::pixels_wide(format, one.bytes(), number(), two.words_mut()).map(none)
         }
         Name::Joined => safe::joined(format, one.bytes(), number(), two.words_mut()).map(none),
-        Name::Strip => safe::strip(format, one.bytes(), two.bytes_mut()).map(|parts| {
-            let number = |part: Result<(), Refusal>| part.err().map_or(0, |refusal| refusal.0);
-            parts.map(|part| number(part).into()).to_vec()
-        }),
+        Name::Strip => safe::strip(format, one.bytes(), two.bytes_mut()).map(numbers),
         Name::PutData => safe::put_data(format, one.bytes_mut(), number(), two.bytes()).map(none),
         Name::PutPixels => {
             safe::put_pixels(format, one.bytes_mut(), number(), two.bytes()).map(none)

@@ -46,6 +46,7 @@ fn answer(call: &Call, lent: &mut [Lent]) -> Answer {
         Name::Read => recording::read(n, lent),
         Name::WriteLine => recording::write_line(n, lent),
         Name::Accepted => sector::accepted(n, lent),
+        Name::Answers => sector::answers(n, lent),
         Name::Filler => sector::filler(n, lent),
         Name::Data => sector::data(n, lent),
         Name::Pixels => sector::pixels(n, lent),

@@ -31,6 +31,11 @@ pub fn accepted(n: &[u64], lent: &mut [Lent]) -> Answer {
     Ok(vec![])
 }
 
+pub fn answers(n: &[u64], lent: &mut [Lent]) -> Answer {
+    let answers = sectors::answers(n[0] as usize, lent[0].bytes())?;
+    Ok(answers.map(u64::from).to_vec())
+}
+
 pub fn filler(n: &[u64], lent: &mut [Lent]) -> Answer {
     let count = sectors::filler(n[0] as usize, lent[0].bytes(), n[1] as usize)?;
     Ok(vec![count as u64])

@@ -86,6 +86,7 @@ impl Maker {
             Name::Read => self.read(faults),
             Name::WriteLine => self.write_line(faults),
             Name::Accepted => self.accepted(faults),
+            Name::Answers => self.answers(faults),
             Name::Filler => self.filler(faults),
             Name::Data => self.data(faults),
             Name::Pixels => self.pixels(faults),
@@ -121,7 +122,7 @@ impl Maker {
 fn weight(name: Name) -> usize {
     match name {
         Name::Fresh | Name::NoMarks => 1,
-        Name::WriteLine | Name::Strip => 4,
+        Name::WriteLine | Name::Strip | Name::Answers => 4,
         Name::Joined | Name::PutSync | Name::Format => 10,
         Name::PutData | Name::PutPixels | Name::PutPixelsWide => 12,
         Name::Accepted | Name::Data | Name::Pixels | Name::PixelsWide => 20,

@@ -44,6 +44,17 @@ impl Maker {
         Asked::planned(Call::new(Name::Accepted, &[format, sector], lent), faults)
     }
 
+    pub fn answers(&mut self, faults: &Faults) -> Asked {
+        let format = self.format(faults);
+        let mut line = self.good_line();
+        for sector in 1..=12 {
+            let number = self.dice.pick(&[0, 0, 5, 6]);
+            self.judged(&mut line, sector, number);
+        }
+        let lent = vec![self.fitted(line, faults.has(2))];
+        Asked::planned(Call::new(Name::Answers, &[format], lent), faults)
+    }
+
     pub fn filler(&mut self, faults: &Faults) -> Asked {
         let format = self.format(faults);
         let (_, sector) = self.sector(&ALL, faults);

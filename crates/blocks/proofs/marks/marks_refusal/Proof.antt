@@ -1,7 +1,7 @@
 -- `blocks::marks::marks_refusal` meets its contract. Assumes nothing.
 use mathlib.Core.Path.{refl}
 use borrow.Author.Tests.{le-leb, lt-leb}
-use Rattle.sectors.specs.Asked.{when}
+use Rattle.refusals.specs.Refusals.{when}
 use Rattle.blocks.specs.Marking.{marksRefusal}
 use Rattle.blocks.proofs.marks.marks_refusal.Statement.{statement}
 use Rattle.blocks.proofs.marks.marks_refusal.Tie as tie

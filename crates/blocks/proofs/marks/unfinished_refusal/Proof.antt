@@ -1,7 +1,7 @@
 -- `blocks::marks::unfinished_refusal` meets its contract. Assumes nothing.
 use mathlib.Core.Path.{refl}
 use borrow.Author.Tests.{eq-eqb, ne-eqb}
-use Rattle.sectors.specs.Asked.{when}
+use Rattle.refusals.specs.Refusals.{when}
 use Rattle.blocks.specs.Marking.{unfinishedRefusal}
 use Rattle.blocks.proofs.marks.unfinished_refusal.Statement.{statement}
 use Rattle.blocks.proofs.marks.unfinished_refusal.Tie as tie

@@ -2,7 +2,7 @@
 -- nothing.
 use native.Mathlib.Omega.{arith}
 use borrow.Author.Tests.{eq-eqb, ne-eqb, lt-ltb, le-ltb}
-use Rattle.sectors.specs.Asked.{when}
+use Rattle.refusals.specs.Refusals.{when}
 use Rattle.document.specs.Segments.{segmentRefusal}
 use Rattle.document.proofs.segments.segment_refusal.Statement.{statement}
 use Rattle.document.proofs.segments.segment_refusal.Tie as tie

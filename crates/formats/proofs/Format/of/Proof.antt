@@ -3,7 +3,7 @@
 use mathlib.Core.Path.{refl, ap}
 use borrow.Author.Needs.{needs}
 use borrow.Author.Tests.{ne-eqb}
-use Rattle.formats.specs.declared.Known.the-variants.{Is}
+use Rattle.formats.specs.declared.FormatAnswer.the-variants.{Is}
 use Rattle.formats.proofs.Format.of.Statement.{statement}
 use Rattle.formats.proofs.Format.of.Tie as tie
 

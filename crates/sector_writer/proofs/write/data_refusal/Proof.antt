@@ -1,22 +1,23 @@
 -- `sector_writer::write::data_refusal` meets its contract. Assumes nothing.
 use mathlib.Core.Path.{sym, ap, subst, _∙_}
 use borrow.Author.Needs.{needs}
+use Rattle.refusals.proofs.Words.{refused, passed, Inside}
 use Rattle.sectors.specs.declared.layout.Layout.{Layout}
 use Rattle.sectors.specs.Layout.{bytesOf, Sound}
-use Rattle.sector_writer.specs.Written.{inputShort, putDataNumber}
-use Rattle.sectors.proofs.First.{refused, passed, Served, served}
+use Rattle.sectors.proofs.Admitted.{served}
 use Rattle.sectors.proofs.Table.{sound}
+use Rattle.sector_writer.specs.Calls.{inputShort, putDataAnswer}
 use Rattle.sector_writer.proofs.write.data_refusal.Statement.{statement}
 use Rattle.sector_writer.proofs.write.data_refusal.Tie as tie
 
-serves : (c : tie.Else1) → Served 1 12 (c .before .before .args .sector)
+serves : (c : tie.Else1) → Inside 1 12 (c .before .before .args .sector)
 serves c = served _ _ _ _ (sym (c .before .asked .ensures) ∙ c .if1 .left)
 
 asked-requires : tie.Need-asked-requires
 asked-requires c κs = search needs
 
 returns : tie.Need-returns
-unfolding putDataNumber
+unfolding putDataAnswer
 returns c = refused _ _ _ (c .before .asked .ensures) (c .if1 .taken)
 
 layout-of-requires : tie.Need-layout-of-requires
@@ -29,7 +30,7 @@ input-short-requires : tie.Need-input-short-requires
 input-short-requires c κs = search needs
 
 returns-2 : tie.Need-returns-2
-unfolding putDataNumber
+unfolding putDataAnswer
 returns-2 c =
     let found = c .before .before .before in
     let a = found .before .before .args in

@@ -1,8 +1,8 @@
 -- `sector_writer::write::input_short` meets its contract. Assumes nothing.
 use mathlib.Core.Path.{ap₂, _∙_}
 use borrow.Author.Needs.{needs}
-use Rattle.sectors.specs.Asked.{first}
-use Rattle.sector_writer.specs.Written.{inputShort}
+use Rattle.refusals.specs.Refusals.{first}
+use Rattle.sector_writer.specs.Calls.{inputShort}
 use Rattle.sector_writer.proofs.write.input_short.Statement.{statement}
 use Rattle.sector_writer.proofs.write.input_short.Tie as tie
 

@@ -1,26 +1,28 @@
 -- `sector_writer::write::wide_refusal` meets its contract. Assumes nothing.
-use mathlib.Core.Path.{sym, ap, ap₂, subst, _∙_}
-use Prim.Native.Nat.{ℕ, _^_, _≤_}
+use mathlib.Core.Path.{sym, subst, _∙_}
+use Prim.Native.Nat.{_≤_}
 use native.Mathlib.Omega.{arith}
 use denote.Ref.{now}
-use lib.ListN.{length, take}
+use lib.ListN.{length}
 use borrow.Author.Needs.{needs}
+use Rattle.refusals.specs.Refusals.{first}
+use Rattle.refusals.proofs.Words.{refused, passed, Inside}
 use Rattle.sectors.specs.declared.layout.Layout.{Layout}
-use Rattle.sectors.specs.Asked.{first}
-use Rattle.sector_writer.specs.Written.{overOf, inputShort, putPixelsNumber}
-use Rattle.sectors.proofs.First.{refused, passed, Served, served}
+use Rattle.sectors.proofs.Admitted.{served}
 use Rattle.sectors.proofs.Table.{sound}
+use Rattle.sector_writer.specs.Calls.{putPixelsAnswer}
+use Rattle.sector_writer.proofs.Writable.{row-chain}
 use Rattle.sector_writer.proofs.write.wide_refusal.Statement.{statement}
 use Rattle.sector_writer.proofs.write.wide_refusal.Tie as tie
 
-serves : (c : tie.Else1) → Served 12 12 (c .before .before .before .args .sector)
+serves : (c : tie.Else1) → Inside 12 12 (c .before .before .before .args .sector)
 serves c = served _ _ _ _ (sym (c .before .asked .ensures) ∙ c .if1 .left)
 
 asked-requires : tie.Need-asked-requires
 asked-requires c κs = search needs
 
 returns : tie.Need-returns
-unfolding putPixelsNumber
+unfolding putPixelsAnswer
 returns c = refused _ _ _ (c .before .asked .ensures) (c .if1 .taken)
 
 layout-of-requires : tie.Need-layout-of-requires
@@ -42,17 +44,12 @@ first-requires : tie.Need-first-requires
 first-requires c κs = search needs
 
 returns-2 : tie.Need-returns-2
-unfolding putPixelsNumber
+unfolding putPixelsAnswer
 returns-2 c =
     let found = c .before .before .before .before .before in
     let a = found .before .before .before .args in
-    let ps = now (a .pixels) in
     passed _ _ _ _ (found .before .asked .ensures) (found .if1 .left)
-    (c .first .ensures
-    ∙ ap₂ first
-    (c .before .before .over-wide .ensures ∙ ap (λ (m : ℕ). overOf m (take (c .before .before .before .before .layout-of .result .count) ps)) (c .before .before .before .limit-of .ensures))
-    (c .before .input-short .ensures)
-    ∙ ap (λ (l : Layout). first (overOf (2 ^ l .width) (take (l .count) ps)) (inputShort (a .length) (length ps) (l .count))) (c .before .before .before .before .layout-of .ensures))
+    (row-chain (a .sector) (c .before .before .before .before .layout-of .ensures) (a .length) (now (a .pixels)) (c .before .before .before .limit-of .ensures) (c .before .before .over-wide .ensures) (c .before .input-short .ensures) (c .first .ensures))
 
 pub wide-refusal-spec : {M : Type 1} → statement M
 wide-refusal-spec =

@@ -1,14 +1,8 @@
 -- `sector_writer::write::write_bytes` meets its contract: data laid into the line, and the frame around them. Assumes nothing.
 use mathlib.Core.Path.{_∙_}
-use Prim.Native.Nat.{_+_, _≤_}
 use denote.Ref.{now}
-use lib.ListN.{length}
 use borrow.Author.Needs.{needs}
-use Rattle.bits.specs.Bits.{bitsOf}
-use Rattle.bits.proofs.Bytes.{length-bits}
-use Rattle.sectors.proofs.Bounds.{ends}
-use Rattle.sector_writer.specs.Written.{dataWritten}
-use Rattle.sector_writer.proofs.Frames.{laid, length-data-written}
+use Rattle.sector_frame.proofs.Frames.{data-laid}
 use Rattle.sector_writer.proofs.write.write_bytes.Statement.{statement}
 use Rattle.sector_writer.proofs.write.write_bytes.Tie as tie
 
@@ -25,10 +19,8 @@ returns : tie.Need-returns
 returns c =
     let start = c .before .before .before .before .before .before .before .before .before .before in
     let a = start .args in
-    let l = a .l in
-    let s = now (a .line) in
-    let long : l .start + l .bits ≤ length (bitsOf s) = rw length-bits (ends l (length s) (start .pre .0) (start .pre .1)) in
-    c .before .before .put-frame .ensures ∙ laid (a .start) l (bitsOf s) _ (dataWritten l (now (a .bytes))) (start .pre .0) long (length-data-written l (now (a .bytes)) (start .pre .2)) (c .before .before .before .before .before .before .put-bytes .ensures)
+    c .before .before .put-frame .ensures ∙ data-laid (a .start) (a .l) (now (a .line)) _ (start .pre .0) (start .pre .1) (now (a .bytes)) (start .pre .2) (c .before .before .before .before .before .before .put-bytes .ensures)
 
 pub write-bytes-spec : {M : Type 1} → statement M
-write-bytes-spec = tie.close (tie.spec put-bytes-requires put-frame-requires same-length returns)
+write-bytes-spec =
+    tie.close (tie.spec put-bytes-requires put-frame-requires same-length returns)

@@ -1,23 +1,24 @@
 -- `sectors::asked::asked` meets its contract. Assumes nothing.
 use mathlib.Core.Path.{ap₂, _∙_}
 use borrow.Author.Needs.{needs}
-use Rattle.sectors.specs.Asked.{first, askedOf}
+use Rattle.refusals.specs.Refusals.{first}
+use Rattle.sectors.specs.Asked.{askedOf}
 use Rattle.sectors.proofs.asked.asked.Statement.{statement}
 use Rattle.sectors.proofs.asked.asked.Tie as tie
 
 format-refusal-requires : tie.Need-format-refusal-requires
 format-refusal-requires c κs = search needs
 
-number-refusal-requires : tie.Need-number-refusal-requires
-number-refusal-requires c κs = search needs
+outside-requires : tie.Need-outside-requires
+outside-requires c κs = search needs
 
 first-requires : tie.Need-first-requires
 first-requires c κs = search needs
 
 returns : tie.Need-returns
 unfolding askedOf
-returns c = c .first .ensures ∙ ap₂ first (c .before .before .format-refusal .ensures) (c .before .number-refusal .ensures)
+returns c = c .first .ensures ∙ ap₂ first (c .before .before .format-refusal .ensures) (c .before .outside .ensures)
 
 pub asked-spec : {M : Type 1} → statement M
 asked-spec =
-    tie.close (tie.spec format-refusal-requires number-refusal-requires first-requires returns)
+    tie.close (tie.spec format-refusal-requires outside-requires first-requires returns)

@@ -1,7 +1,8 @@
 -- `sectors::asked::line_refusal` meets its contract. Assumes nothing.
 use mathlib.Core.Path.{ap₂, _∙_}
 use borrow.Author.Needs.{needs}
-use Rattle.sectors.specs.Asked.{first, lineRefusal}
+use Rattle.refusals.specs.Refusals.{first}
+use Rattle.sectors.specs.Asked.{lineRefusal}
 use Rattle.sectors.proofs.asked.line_refusal.Statement.{statement}
 use Rattle.sectors.proofs.asked.line_refusal.Tie as tie
 

@@ -4,12 +4,13 @@ use Prim.Native.Nat.{ℕ}
 use denote.Ref.{now}
 use lib.ListN.{length}
 use borrow.Author.Needs.{needs}
+use Rattle.refusals.proofs.Words.{refused, passed}
 use Rattle.bits.specs.Bits.{bitsOf}
 use Rattle.sectors.specs.declared.layout.Layout.{Layout}
 use Rattle.sectors.specs.Layout.{Sound}
 use Rattle.sectors.specs.Sector.{answerOf}
-use Rattle.sectors.specs.Calls.{acceptedOf}
-use Rattle.sectors.proofs.First.{refused, passed, Admitted, admitted}
+use Rattle.sectors.specs.Calls.{acceptedAnswer}
+use Rattle.sectors.proofs.Admitted.{Admitted, admitted}
 use Rattle.sectors.proofs.Table.{sound}
 use Rattle.sectors.proofs.check.accepted.Statement.{statement}
 use Rattle.sectors.proofs.check.accepted.Tie as tie
@@ -21,7 +22,7 @@ line-refusal-requires : tie.Need-line-refusal-requires
 line-refusal-requires c κs = search needs
 
 returns : tie.Need-returns
-unfolding acceptedOf
+unfolding acceptedAnswer
 returns c = refused _ _ _ (c .before .line-refusal .ensures) (c .if1 .taken)
 
 check-start-requires : tie.Need-check-start-requires
@@ -36,7 +37,7 @@ answer-requires c κs =
     let h = admit (c .before .before) in (subst Sound (sym (c .layout-of .ensures)) (sound _ (h .low) (h .high)), h .long)
 
 returns-2 : tie.Need-returns-2
-unfolding acceptedOf
+unfolding acceptedAnswer
 returns-2 c =
     let found = c .before .before .before in
     let b = bitsOf (now (found .before .before .before .args .line)) in

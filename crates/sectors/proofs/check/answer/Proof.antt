@@ -1,10 +1,10 @@
 -- `sectors::check::answer` meets its contract: each test decides one case of the answer. Assumes nothing.
 use mathlib.Core.Path.{_≡_, sym, _∙_}
 use denote.Ref.{now}
-use Rattle.crc.specs.Remainder.{remainderOf}
-use borrow.Author.Needs.{needs}
 use Rattle.bits.specs.Bits.{bitsOf, part}
-use Rattle.sectors.specs.Sector.{stretch, coveredOf}
+use borrow.Author.Needs.{needs}
+use Rattle.crc.specs.Remainder.{remainderOf}
+use Rattle.sectors.specs.Sector.{coveredOf}
 use Rattle.sectors.proofs.Answers.{answer-five, answer-six, answer-none, id-part}
 use Rattle.sectors.proofs.check.answer.Statement.{statement}
 use Rattle.sectors.proofs.check.answer.Tie as tie
@@ -21,7 +21,7 @@ remainder-requires c κs = search needs
 -- the remainder over ID, data and check
 read : (c : tie.After-remainder) → let a = c .before .before .before .args in
     c .remainder .result ≡ remainderOf (a .start) (coveredOf (a .l) (bitsOf (now (a .line))))
-unfolding part coveredOf stretch
+unfolding part coveredOf
 read c = c .remainder .ensures
 
 returns : tie.Need-returns

@@ -1,7 +1,7 @@
 -- `sectors::check::count_filler` meets its contract. Assumes nothing.
 use borrow.Author.Needs.{needs}
 use Rattle.bits.specs.Bits.{part}
-use Rattle.sectors.specs.Sector.{stretch, fillerOf}
+use Rattle.sectors.specs.Sector.{fillerOf}
 use Rattle.sectors.proofs.check.count_filler.Statement.{statement}
 use Rattle.sectors.proofs.check.count_filler.Tie as tie
 
@@ -18,7 +18,7 @@ count-set-requires : tie.Need-count-set-requires
 count-set-requires c κs = search needs
 
 returns : tie.Need-returns
-unfolding fillerOf stretch part
+unfolding fillerOf part
 returns c = c .count-set .ensures .0
 
 pub count-filler-spec : {M : Type 1} → statement M

@@ -1,0 +1,23 @@
+-- `calibration::albedo` meets its contract. Assumes nothing.
+use mathlib.Core.Path.{sym, ap, subst, _∙_}
+use denote.Ref.{now}
+use Rattle.calibration.specs.declared.Levels.{Levels}
+use Rattle.calibration.specs.Tables.{Table, levelAnswer}
+use Rattle.calibration.proofs.Tables.{albedo-table}
+use borrow.Author.Needs.{needs}
+use Rattle.calibration.proofs.albedo.Statement.{statement}
+use Rattle.calibration.proofs.albedo.Tie as tie
+
+albedo-table-requires : tie.Need-albedo-table-requires
+albedo-table-requires c κs = search needs
+
+level-real-requires : tie.Need-level-real-requires
+level-real-requires c κs = subst Table (sym (c .albedo-table .ensures)) albedo-table
+
+returns : tie.Need-returns
+returns c =
+    let a = c .before .before .before .args in
+    c .level-real .ensures ∙ ap (λ (t : Levels). levelAnswer t (a .format) (a .marks) (now (a .block)) (a .channel) (a .level)) (c .before .albedo-table .ensures)
+
+pub albedo-spec : {M : Type 1} → statement M
+albedo-spec = tie.close (tie.spec albedo-table-requires level-real-requires returns)

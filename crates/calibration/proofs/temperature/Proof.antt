@@ -1,0 +1,23 @@
+-- `calibration::temperature` meets its contract. Assumes nothing.
+use mathlib.Core.Path.{sym, ap, subst, _∙_}
+use denote.Ref.{now}
+use Rattle.calibration.specs.declared.Levels.{Levels}
+use Rattle.calibration.specs.Tables.{Table, levelAnswer}
+use Rattle.calibration.proofs.Tables.{temperature-table}
+use borrow.Author.Needs.{needs}
+use Rattle.calibration.proofs.temperature.Statement.{statement}
+use Rattle.calibration.proofs.temperature.Tie as tie
+
+temperature-table-requires : tie.Need-temperature-table-requires
+temperature-table-requires c κs = search needs
+
+level-real-requires : tie.Need-level-real-requires
+level-real-requires c κs = subst Table (sym (c .temperature-table .ensures)) temperature-table
+
+returns : tie.Need-returns
+returns c =
+    let a = c .before .before .before .args in
+    c .level-real .ensures ∙ ap (λ (t : Levels). levelAnswer t (a .format) (a .marks) (now (a .block)) (a .channel) (a .level)) (c .before .temperature-table .ensures)
+
+pub temperature-spec : {M : Type 1} → statement M
+temperature-spec = tie.close (tie.spec temperature-table-requires level-real-requires returns)

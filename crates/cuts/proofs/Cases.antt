@@ -1,0 +1,38 @@
+-- What holds of a call's answer and buffer in each case holds of them: refused, nothing to read, or the call on the bits.
+-- Assumes nothing.
+use mathlib.Core.Bool.{Bool, true, false, cond}
+use mathlib.Core.List.{List}
+use mathlib.Core.Path.{_≡_, refl}
+use Prim.Native.Nat.{ℕ, zero, suc, _≤_, _<_}
+use native.Mathlib.Nat.{zero-lt-suc}
+use native.Mathlib.Omega.{arith}
+use borrow.Author.Tests.{eqb-true, eqb-false}
+use lib.Dec.{eqb}
+use lib.ListN.{length}
+use Rattle.refusals.specs.Refusals.{answered, kept}
+use Rattle.records.specs.Records.{possibleOf}
+use Rattle.records.specs.declared.State.{State}
+use Rattle.reader.specs.Read.{callOf, callAnswer, callLeft, servedAnswer, servedLeft, readRefusal, readAnswer, readLeft}
+use Rattle.reader.specs.declared.Answer.{Answer}
+use Rattle.reader.specs.declared.Answer.the-variants.{Refused, More}
+use Rattle.reader.proofs.Ways.{Admitted, admitted}
+
+module _ (f : ℕ) (s : State) (p buf : List ℕ) (P : Answer → List ℕ → Type 0)
+    (refused : (n : ℕ) → zero < n → P (Refused n) buf)
+    (nothing : possibleOf s ≡ true → length p ≡ 0 → P (More 0 s) buf)
+    (called : possibleOf s ≡ true → 44356 ≤ length buf → zero < length p → P (callAnswer (callOf s p buf)) (callLeft (callOf s p buf))) where
+  served-cases : Admitted s (length buf) → P (servedAnswer s p buf) (servedLeft s p buf)
+  unfolding servedAnswer servedLeft
+  served-cases a = go (eqb (length p) 0) refl
+    where
+      go : (c : Bool) → eqb (length p) 0 ≡ c → P (cond c (More 0 s) (callAnswer (callOf s p buf))) (cond c buf (callLeft (callOf s p buf)))
+      go true e = nothing (a .possible) (eqb-true (length p) 0 e)
+      go false e = called (a .possible) (a .long) (let n = eqb-false (length p) 0 e in omega arith)
+
+  pub read-cases : P (readAnswer f s p buf) (readLeft f s p buf)
+  unfolding readAnswer readLeft answered kept
+  read-cases = go (readRefusal f s (length buf)) refl
+    where
+      go : (r : ℕ) → readRefusal f s (length buf) ≡ r → P (answered Refused r (servedAnswer s p buf)) (kept r buf (servedLeft s p buf))
+      go zero e = served-cases (admitted f s (length buf) e)
+      go (suc r) e = refused (suc r) (zero-lt-suc r)

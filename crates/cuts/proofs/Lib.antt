@@ -1,0 +1,15 @@
+pub mod Calls
+pub mod Windows
+pub mod Auto
+pub mod Cuts
+pub mod Snoc
+pub mod Stands
+pub mod Simulates
+pub mod Reached
+pub mod Demand
+pub mod Cases
+pub mod Keeps
+pub mod Advances
+pub mod Later
+pub mod Onward
+pub mod Moments

@@ -1,0 +1,72 @@
+-- THE CALLER of demand 3, and what it is handed. It offers a piece, and each unread rest of it, until the piece is used up,
+-- and then the next; the record goes from call to call, and so does the buffer, which the caller may exchange for another
+-- before a call while the reader is between lines. Assumes nothing.
+use mathlib.Core.Bool.{false, cond}
+use mathlib.Core.List.{List, [], _∷_, _++_}
+use mathlib.Core.Path.{_≡_}
+use Prim.Native.Nat.{ℕ, suc, _+_, _-_, _*_}
+use lib.ListN.{length, take, drop}
+use Rattle.bits.specs.Bits.{bitsOf}
+use Rattle.formats.specs.Formats.{lineBytes}
+use Rattle.reader.specs.Read.{readAnswer, readLeft}
+use Rattle.records.specs.Records.{freshState}
+use Rattle.records.specs.declared.State.{State}
+use Rattle.reader.specs.declared.Answer.the-variants.{Refused, More, Line}
+
+-- the buffer of call k: inside a line it stays; between lines it is what the caller makes of it, `lend k`
+abbrev pub lentFor : (ℕ → List ℕ → List ℕ) → ℕ → State → List ℕ → List ℕ
+lentFor lend k s buf = cond (s .«in_line») buf (lend k buf)
+
+-- one and the same buffer in all calls
+abbrev pub oneBuffer : ℕ → List ℕ → List ℕ
+oneBuffer k buf = buf
+
+-- the line in a buffer: its first 44,356 bytes, as bits
+unfoldable pub lineIn : List ℕ → List ℕ
+lineIn buf = bitsOf (take lineBytes buf)
+
+-- the calls of format f from call k on, with a record, a buffer and the pieces to offer; and the lines handed out, each as
+-- it stands in the buffer right after the call that says so
+pub data Driven (f : ℕ) (lend : ℕ → List ℕ → List ℕ) : ℕ → State → List ℕ → List (List ℕ) → List (List ℕ) → Type 0 where
+  end : {k : ℕ} {s : State} {buf : List ℕ} → Driven f lend k s buf [] []
+  used : {k : ℕ} {s : State} {buf : List ℕ} {ps ls : List (List ℕ)} → Driven f lend k s buf ps ls → Driven f lend k s buf ([] ∷ ps) ls
+  on : {k : ℕ} {s : State} {buf p : List ℕ} {ps ls : List (List ℕ)} {t : ℕ} {s′ : State}
+      → readAnswer f s p (lentFor lend k s buf) ≡ More t s′
+      → Driven f lend (suc k) s′ (readLeft f s p (lentFor lend k s buf)) (drop t p ∷ ps) ls
+      → Driven f lend k s buf (p ∷ ps) ls
+  got : {k : ℕ} {s : State} {buf p : List ℕ} {ps ls : List (List ℕ)} {t : ℕ} {s′ : State}
+      → readAnswer f s p (lentFor lend k s buf) ≡ Line t s′
+      → Driven f lend (suc k) s′ (readLeft f s p (lentFor lend k s buf)) (drop t p ∷ ps) ls
+      → Driven f lend k s buf (p ∷ ps) (lineIn (readLeft f s p (lentFor lend k s buf)) ∷ ls)
+
+-- calls between lines that find no tail, or are refused: from one record and buffer to another
+pub data NoTail (f : ℕ) : State → List ℕ → State → List ℕ → Type 0 where
+  here : {s : State} {buf : List ℕ} → NoTail f s buf s buf
+  on : {s s′ s″ : State} {buf buf″ : List ℕ} {t : ℕ} (p : List ℕ)
+      → readAnswer f s p buf ≡ More t s′ → s′ .«in_line» ≡ false → NoTail f s′ (readLeft f s p buf) s″ buf″ → NoTail f s buf s″ buf″
+  refused : {s s″ : State} {buf buf″ : List ℕ} {n : ℕ} (p : List ℕ)
+      → readAnswer f s p buf ≡ Refused n → NoTail f s (readLeft f s p buf) s″ buf″ → NoTail f s buf s″ buf″
+
+-- the bytes taken in a run of calls, in all
+unfoldable pub takenIn : {f : ℕ} {lend : ℕ → List ℕ → List ℕ} {k : ℕ} {s : State} {buf : List ℕ} {ps ls : List (List ℕ)} → Driven f lend k s buf ps ls → ℕ
+takenIn end = 0
+takenIn (used d) = takenIn d
+takenIn (on {t = t} e d) = t + takenIn d
+takenIn (got {t = t} e d) = t + takenIn d
+
+-- a moment of a run of calls from a fresh reader: the calls made, the record and the buffer after them, the bytes taken so
+-- far, in a row, and the lines handed out so far. A call may be offered any bytes beyond those that it takes
+pub data Moment (f : ℕ) (lend : ℕ → List ℕ → List ℕ) (first : List ℕ) : ℕ → State → List ℕ → List ℕ → List (List ℕ) → Type 0 where
+  start : Moment f lend first 0 freshState first [] []
+  on : {k : ℕ} {s : State} {buf bytes : List ℕ} {ls : List (List ℕ)} {t : ℕ} {s′ : State} (p : List ℕ)
+      → Moment f lend first k s buf bytes ls
+      → readAnswer f s p (lentFor lend k s buf) ≡ More t s′
+      → Moment f lend first (suc k) s′ (readLeft f s p (lentFor lend k s buf)) (bytes ++ take t p) ls
+  got : {k : ℕ} {s : State} {buf bytes : List ℕ} {ls : List (List ℕ)} {t : ℕ} {s′ : State} (p : List ℕ)
+      → Moment f lend first k s buf bytes ls
+      → readAnswer f s p (lentFor lend k s buf) ≡ Line t s′
+      → Moment f lend first (suc k) s′ (readLeft f s p (lentFor lend k s buf)) (bytes ++ take t p) (ls ++ (lineIn (readLeft f s p (lentFor lend k s buf)) ∷ []))
+
+-- the bits read so far: all of the bytes taken but the unread ones
+unfoldable pub bitsRead : State → List ℕ → List ℕ
+bitsRead s bytes = take (8 * length bytes - s .«unread_count») (bitsOf bytes)

@@ -1,0 +1,3 @@
+pub mod Served
+pub mod Floats
+pub mod Edges

@@ -1,0 +1,4 @@
+pub mod Position
+pub mod Numbers
+pub mod Stamped
+pub mod Edges

@@ -1,0 +1,72 @@
+-- `entries::mapping::mapping` meets its contract. Assumes nothing.
+use mathlib.Core.Path.{_≡_, sym, ap, ap₂, _∙_}
+use Prim.Native.Nat.{ℕ, _≤_}
+use native.Mathlib.Omega.{arith}
+use denote.Ref.{now}
+use lib.ListN.{length}
+use Rattle.refusals.specs.Refusals.{first, outsideOf}
+use Rattle.refusals.proofs.Words.{none-first, none-second, inside}
+use Rattle.refusals.proofs.Given.{given-some, given-none}
+use Rattle.blocks.specs.Blocks.{blocks, blockOf, mapping}
+use Rattle.entries.specs.declared.mapping.Mapped.the-variants.{Is, Refused}
+use Rattle.entries.specs.Entries.{entryRefusal, gridRefusal, mappingRefusal, mappingAnswer}
+use Rattle.entries.proofs.Known.{given}
+use borrow.Author.Needs.{needs}
+use Rattle.entries.proofs.mapping.mapping.Statement.{statement}
+use Rattle.entries.proofs.mapping.mapping.Tie as tie
+
+refusal : (c : tie.After-entry-refusal) → let a = c .before .before .before .before .before .args in
+    c .entry-refusal .result ≡ mappingRefusal (a .format) (a .marks) (a .row) (a .column) (length (now (a .block)))
+unfolding gridRefusal
+refusal c =
+    let a = c .before .before .before .before .before .args in
+    c .entry-refusal .ensures
+    ∙ ap (λ (n : ℕ). entryRefusal (a .format) (a .marks) mapping 0 n (length (now (a .block)))) (c .before .first .ensures ∙ ap₂ first (c .before .before .before .outside .ensures) (c .before .before .outside2 .ensures))
+
+-- what `grid_at` asks
+asks : (c : tie.Else1) → let a = c .before .before .before .before .before .before .args in (a .row ≤ 24) × (a .column ≤ 24) × (2500 ≤ length (now (a .block)))
+unfolding gridRefusal blockOf blocks
+asks c =
+    let a = c .before .before .before .before .before .before .args in
+    let h = given (a .format) _ _ _ _ _ (sym (refusal (c .before)) ∙ c .if1 .left) in
+    let rows : ℕ = outsideOf 0 24 (a .row) 10 in
+    let columns : ℕ = outsideOf 0 24 (a .column) 10 in (
+      inside 0 24 (a .row) 10 (λ z. omega arith) (none-first rows columns (h .ranged)) .high,
+      inside 0 24 (a .column) 10 (λ z. omega arith) (none-second rows columns (h .ranged)) .high,
+      h .room,
+    )
+
+outside-requires : tie.Need-outside-requires
+outside-requires c κs = search needs
+
+outside-requires-2 : tie.Need-outside-requires-2
+outside-requires-2 c κs = search needs
+
+first-requires : tie.Need-first-requires
+first-requires c κs = search needs
+
+entry-refusal-requires : tie.Need-entry-refusal-requires
+entry-refusal-requires c κs = search needs
+
+returns : tie.Need-returns
+unfolding mappingAnswer
+returns c = given-some Refused _ _ _ (refusal (c .before)) (c .if1 .taken)
+
+grid-at-requires : tie.Need-grid-at-requires
+grid-at-requires c κs = asks c
+
+returns-2 : tie.Need-returns-2
+unfolding mappingAnswer
+returns-2 c = given-none Refused _ _ _ _ (refusal (c .before .before)) (c .before .if1 .left) (ap Is (c .grid-at .ensures))
+
+pub mapping-spec : {M : Type 1} → statement M
+mapping-spec =
+    tie.close
+    (tie.spec
+    outside-requires
+    outside-requires-2
+    first-requires
+    entry-refusal-requires
+    returns
+    grid-at-requires
+    returns-2)

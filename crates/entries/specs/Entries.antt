@@ -1,0 +1,114 @@
+-- The entries of a finished block: the points of the mapping grid and the orbital elements.
+-- Places count bytes of the block from 1. Refusals stand in the order in which they are tested. Assumes nothing.
+use Prim.Native.Nat.{ℕ, _+_, _*_, _-_}
+use mathlib.Core.List.{List}
+use lib.Ieee as Ieee
+use lib.IntN.{ℤ, pos, _-ℤ_}
+use lib.ListN.{length}
+use Rattle.refusals.specs.Refusals.{first, shortOf, outsideOf, answered}
+use Rattle.formats.specs.Formats.{formatRefusal}
+use Rattle.bits.specs.Bits.{stretch, inBase}
+use Rattle.numbers.specs.Reals.{realIn}
+use Rattle.numbers.specs.Floats.{valueOf, zeroFloat}
+use Rattle.blocks.specs.declared.marks.Marks.{Marks}
+use Rattle.blocks.specs.Blocks.{blockOf, mapping, orbit, blockRefusal}
+use Rattle.blocks.specs.Marking.{marksRefusal, unfinishedRefusal}
+use Rattle.entries.specs.declared.mapping.Grid.{Grid}
+use Rattle.entries.specs.declared.mapping.Mapped.{Mapped}
+use Rattle.entries.specs.declared.mapping.Mapped.the-variants as mapped
+use Rattle.entries.specs.declared.orbit.Orbit.{Orbit}
+use Rattle.entries.specs.declared.orbit.Orbital.{Orbital}
+use Rattle.entries.specs.declared.orbit.Orbital.the-variants as orbital
+
+-- ---- what refuses an entry
+
+-- 1, 12, 4, 10, 2, 9: of a channel 4 or 0 is handed in, and of a level or grid point 10 or 0
+unfoldable pub entryRefusal : ℕ → Marks → ℕ → ℕ → ℕ → ℕ → ℕ
+entryRefusal f m n channel range given =
+    first (first (formatRefusal f) (marksRefusal m))
+    (first (first (first (blockRefusal f n) channel) range) (first (shortOf given (blockOf n .size) 2) (unfinishedRefusal m)))
+
+-- ---- mapping
+
+-- row i, column j: line and then pixel
+abbrev pub gridPlace : ℕ → ℕ → ℕ
+gridPlace i j = 100 * i + 4 * j + 1
+
+-- degrees north
+abbrev pub latitudeOf : ℕ → ℤ
+latitudeOf i = pos 60 -ℤ pos (5 * i)
+
+-- degrees east; the first column of a format
+unfoldable pub firstLongitude : ℕ → ℕ
+firstLongitude f = 45
+
+abbrev pub longitudeOf : ℕ → ℕ → ℤ
+longitudeOf f j = pos (firstLongitude f + 5 * j)
+
+unfoldable pub gridAt : ℕ → List ℕ → ℕ → ℕ → Grid
+gridAt f block i j = record {
+  line = inBase 256 (stretch block (gridPlace i j - 1) 2);
+  pixel = inBase 256 (stretch block (gridPlace i j + 2 - 1) 2);
+  latitude = latitudeOf i;
+  longitude = longitudeOf f j;
+}
+
+-- the paper's number and values for each answer
+abbrev pub mappedNumber : Mapped → ℕ
+mappedNumber (mapped.Is g) = 0
+mappedNumber (mapped.Refused r) = r
+
+abbrev pub mappedPoint : Mapped → Grid
+mappedPoint (mapped.Is g) = g
+mappedPoint (mapped.Refused r) = record { line = 0; pixel = 0; latitude = pos 0; longitude = pos 0 }
+
+-- rows and columns 0 to 24
+unfoldable pub gridRefusal : ℕ → ℕ → ℕ
+gridRefusal i j = first (outsideOf 0 24 i 10) (outsideOf 0 24 j 10)
+
+-- 1, 12, 10, 2, 9
+abbrev pub mappingRefusal : ℕ → Marks → ℕ → ℕ → ℕ → ℕ
+mappingRefusal f m i j given = entryRefusal f m mapping 0 (gridRefusal i j) given
+
+-- THE ANSWER to a point
+unfoldable pub mappingAnswer : ℕ → Marks → List ℕ → ℕ → ℕ → Mapped
+mappingAnswer f m block i j = answered mapped.Refused (mappingRefusal f m i j (length block)) (mapped.Is (gridAt f block i j))
+
+-- ---- orbital elements
+
+-- the seven R*6 numbers from byte 157 on
+abbrev pub elementPlace : ℕ → ℕ
+elementPlace k = 157 + 6 * k
+
+unfoldable pub elementAt : List ℕ → ℕ → ℕ → Ieee.Float
+elementAt block k m = valueOf (realIn 6 m (stretch block (elementPlace k - 1) 6))
+
+-- 000, table 12, words 157 to 198, and 002 have the order and the names
+unfoldable pub elementsIn : List ℕ → Orbit
+elementsIn block = record {
+  epoch = elementAt block 0 8;
+  axis = elementAt block 1 8;
+  eccentricity = elementAt block 2 10;
+  inclination = elementAt block 3 8;
+  node = elementAt block 4 8;
+  perigee = elementAt block 5 8;
+  anomaly = elementAt block 6 8;
+}
+
+-- the paper's number and values for each answer
+abbrev pub orbitalNumber : Orbital → ℕ
+orbitalNumber (orbital.Is e) = 0
+orbitalNumber (orbital.Refused r) = r
+
+abbrev pub orbitalElements : Orbital → Orbit
+orbitalElements (orbital.Is e) = e
+orbitalElements (orbital.Refused r) =
+    record { epoch = zeroFloat; axis = zeroFloat; eccentricity = zeroFloat; inclination = zeroFloat; node = zeroFloat; perigee = zeroFloat; anomaly = zeroFloat }
+
+-- 1, 12, 2, 9
+abbrev pub elementsRefusal : ℕ → Marks → ℕ → ℕ
+elementsRefusal f m given = entryRefusal f m orbit 0 0 given
+
+-- THE ANSWER to the elements
+unfoldable pub elementsAnswer : ℕ → Marks → List ℕ → Orbital
+elementsAnswer f m block = answered orbital.Refused (elementsRefusal f m (length block)) (orbital.Is (elementsIn block))

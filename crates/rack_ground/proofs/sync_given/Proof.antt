@@ -1,0 +1,23 @@
+-- `rack_ground::sync_given` meets its contract. Assumes nothing.
+use borrow.Author.Needs.{needs}
+use Rattle.rack_ground.specs.Ground.{syncGiven}
+use Rattle.rack_number.specs.Number.{countGiven}
+use Rattle.rack_ground.proofs.sync_given.Statement.{statement}
+use Rattle.rack_ground.proofs.sync_given.Tie as tie
+
+enum-known-a : tie.Need-enum-known-a
+enum-known-a c = search needs
+
+enum-known-a-2 : tie.Need-enum-known-a-2
+enum-known-a-2 c = search needs
+
+returns : tie.Need-returns
+unfolding syncGiven countGiven
+returns c = cc
+
+returns-2 : tie.Need-returns-2
+unfolding syncGiven countGiven
+returns-2 c = cc
+
+pub sync-given-spec : {M : Type 1} → statement M
+sync-given-spec = tie.close (tie.spec enum-known-a enum-known-a-2 returns returns-2)

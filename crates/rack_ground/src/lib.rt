@@ -1,0 +1,126 @@
+// Formats, the scrambling register and SYNC for C and Rust. Each function hands its numbers and slices on to the call of the
+// same name in `formats` or `scramble` and lays that call's answer out as one struct of numbers: `refused` is 0 or the number
+// of the refusal, and a refused answer has 0 in every other field.
+//
+// The contracts cite `specs/Ground.antt`, one definition for each answer, over the definitions of the calls themselves. No
+// function has a `requires`: nothing checks a caller in C.
+//
+// A slice crosses as a pointer and a count; slices that are lent to one call must not overlap.
+ghost use mathlib.Core.Path.{_≡_};
+ghost use Rattle.formats.specs.Formats.{formatOf};
+ghost use Rattle.sync.specs.Put.{putSyncAnswer, putSyncLeft};
+ghost use Rattle.rack_ground.specs.Ground.{formatGiven, stepGiven, registerLeft, syncGiven};
+use formats::Format;
+use rack_number::CountAnswer;
+use scramble::Register;
+use sync::SyncPut;
+
+// A format: its number, the bits of the three parts of one line on the wire, and the bytes of them all.
+#[repr(C)]
+pub struct FormatAnswer {
+    pub refused: u8,
+    pub number: u8,
+    pub sync_bits: usize,
+    pub information_bits: usize,
+    pub dummy_bits: usize,
+    pub bytes: usize,
+}
+
+// One step of the scrambling register: the register after it, and the bit that it gave.
+#[repr(C)]
+pub struct StepAnswer {
+    pub refused: u8,
+    pub bit: u8,
+    pub register: u16,
+}
+
+// Inner. A format as it crosses the boundary.
+fn format_given(a: formats::FormatAnswer) -> FormatAnswer
+    ensures { λ r. ⌜ r ≡ formatGiven a ⌝ }
+{
+    match a {
+        formats::FormatAnswer::Is(f) => FormatAnswer {
+            refused: 0,
+            number: f.number,
+            sync_bits: f.sync,
+            information_bits: f.information,
+            dummy_bits: f.dummy,
+            bytes: f.bytes,
+        },
+        formats::FormatAnswer::Refused(n) => FormatAnswer {
+            refused: n,
+            number: 0,
+            sync_bits: 0,
+            information_bits: 0,
+            dummy_bits: 0,
+            bytes: 0,
+        },
+    }
+}
+
+// The lengths of a format; refused with 1.
+#[no_mangle]
+pub extern "C" fn hansobrik_format(format: u8) -> FormatAnswer
+    ensures { λ r. ⌜ r ≡ formatGiven (formatOf format) ⌝ }
+{
+    format_given(Format::of(format))
+}
+
+// The step of a register by value; refused with 12 for a register over fifteen bits.
+#[no_mangle]
+pub extern "C" fn hansobrik_stepped(register: u16) -> StepAnswer
+    ensures { λ r. ⌜ r ≡ stepGiven register ⌝ }
+{
+    if register > scramble::FIFTEEN_ONES {
+        return StepAnswer {
+            refused: refusals::STATE,
+            bit: 0,
+            register: 0,
+        };
+    }
+    let s = scramble::stepped(Register { bits: register });
+    StepAnswer {
+        refused: 0,
+        bit: s.bit,
+        register: s.next.bits,
+    }
+}
+
+// The step of a register that the caller lends: it changes in place. Refused with 12 for a register over fifteen bits,
+// which then stays as it was. The answer's `register` is that after the step.
+#[no_mangle]
+pub extern "C" fn hansobrik_step(register: &mut u16) -> StepAnswer
+    ensures { λ r. ⌜ (r ≡ stepGiven (now (register .entry))) × (now (register .exit) ≡ registerLeft (now (register .entry))) ⌝ }
+{
+    let was = *register;
+    let s = hansobrik_stepped(was);
+    if was > scramble::FIFTEEN_ONES {
+        return s;
+    }
+    *register = s.register;
+    s
+}
+
+// Inner. The bytes of SYNC as they cross the boundary.
+fn sync_given(a: SyncPut) -> CountAnswer
+    ensures { λ r. ⌜ r ≡ syncGiven a ⌝ }
+{
+    match a {
+        SyncPut::Put(n) => CountAnswer {
+            refused: 0,
+            count: n,
+        },
+        SyncPut::Refused(n) => CountAnswer {
+            refused: n,
+            count: 0,
+        },
+    }
+}
+
+// SYNC of a format at the front of out, and how many bytes it takes; refused with 1, 3.
+#[no_mangle]
+pub extern "C" fn hansobrik_put_sync(format: u8, out: &mut [u8]) -> CountAnswer
+    ensures { λ r. ⌜ (r ≡ syncGiven (putSyncAnswer format (now (out .entry)))) × (now (out .exit) ≡ putSyncLeft format (now (out .entry))) ⌝ }
+{
+    sync_given(sync::put_sync(format, out))
+}

@@ -1,0 +1,38 @@
+-- The words of a chain of refusals: the first that applies is given, a refused call answers with its number and leaves its
+-- buffers as they were. Assumes nothing.
+use Prim.Native.Nat.{ℕ, zero, suc}
+use mathlib.Core.Bool.{Bool, true, false, _||_}
+use mathlib.Core.List.{List}
+use lib.Dec.{ltb}
+
+-- a number where a test applies
+unfoldable pub when : Bool → ℕ → ℕ
+when true n = n
+when false n = 0
+
+-- of two answers the first that is no 0
+unfoldable pub first : ℕ → ℕ → ℕ
+first zero b = b
+first (suc a) b = suc a
+
+-- an answer of any kind, with its way to refuse: 0 is no refusal, and then it is what was asked for
+unfoldable pub answered : {A : Type 0} → (ℕ → A) → ℕ → A → A
+answered refuse zero asked = asked
+answered refuse (suc k) asked = refuse (suc k)
+
+-- a lent slice once a call has answered: as it was where the call is refused
+unfoldable pub kept : ℕ → List ℕ → List ℕ → List ℕ
+kept zero was becomes = becomes
+kept (suc a) was becomes = was
+
+-- 2 or 3: fewer than needed
+unfoldable pub shortOf : ℕ → ℕ → ℕ → ℕ
+shortOf given needed number = when (ltb given needed) number
+
+-- n is not one of low to high
+unfoldable pub outside : ℕ → ℕ → ℕ → Bool
+outside low high n = ltb n low || ltb high n
+
+-- 4, 7 or 10: the number is not one from low to high
+unfoldable pub outsideOf : ℕ → ℕ → ℕ → ℕ → ℕ
+outsideOf low high n number = when (outside low high n) number

@@ -1,0 +1,5 @@
+pub mod Resume
+pub mod TailTest
+pub mod Masks
+pub mod Searching
+pub mod Filling

@@ -1,0 +1,5 @@
+pub mod Back
+pub mod RoundTrip
+pub mod Others
+pub mod Points
+pub mod Rounds

@@ -1,0 +1,3 @@
+pub mod Decimals
+pub mod Dates
+pub mod Stamps
