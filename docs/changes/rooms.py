@@ -95,20 +95,20 @@ module('scramble.proofs.Rule', 'wire.proofs.Rule')
 names('scramble.proofs.Steps', 'wire.proofs.Rule', 'after-add after-lt scrambling-append')
 names('scramble.proofs.Wire', 'wire.proofs.Wire', 'plain-wire wire-below wire-append plain-back wire-back line-back')
 names('reader.specs.Phase', 'scramble.specs.Wire', 'plainBit')
-names('reader.specs.Read', 'scan.specs.Scan', 'stepOf doneOf')
+names('reader.specs.Read', 'reader_bits.specs.Loops', 'stepOf doneOf')
 names('reader.specs.Read', 'reader.specs.Read', 'readBuffer=readLeft answerOf=callAnswer bufferOf=callLeft')
 names('reader.specs.Inner', 'reader.specs.Read', 'CallOk')
-modules('reader.specs.', 'scan.specs.', 'Lines Call Phase Inner=Scan declared.Sought declared.Sought.the-variants')
-modules('reader.specs.declared.line.', 'scan.specs.declared.', 'Filled Filled.the-variants')
-modules('reader.specs.', 'records.specs.', 'Records declared.State')
+modules('reader.specs.', 'reader_bits.specs.', 'Lines Call Phase Inner=Loops declared.Sought declared.Sought.the-variants')
+modules('reader.specs.declared.line.', 'reader_bits.specs.declared.', 'Filled Filled.the-variants')
+modules('reader.specs.', 'reader_record.specs.', 'Records declared.State')
 module('reader.specs.Driven', 'cuts.specs.Driven')
-names('reader.proofs.Calls', 'scan.proofs.Resume', 'bit-lt resume-bit resume-byte resume-end')
+names('reader.proofs.Calls', 'reader_bits.proofs.Resume', 'bit-lt resume-bit resume-byte resume-end')
 names('reader.proofs.Snoc', 'scramble.proofs.Wire', 'plain-lt')
 names('reader.proofs.Snoc', 'wire.proofs.Wire', 'line-snoc line-none')
 modules('reader.proofs.', 'cuts.proofs.',
         'Windows Auto Cuts Stands Simulates Reached Demand Cases Keeps Advances Later Onward Moments Snoc Calls')
-modules('reader.proofs.', 'scan.proofs.', 'TailTest Masks Searching Filling')
-module('reader.proofs.Checked', 'records.proofs.Checked')
+modules('reader.proofs.', 'reader_bits.proofs.', 'TailTest Masks Searching Filling')
+module('reader.proofs.Checked', 'reader_record.proofs.Checked')
 names('writer.specs.Wire', 'writer.specs.Wire', 'writtenOf=writeLineAnswer outputOf=writeLineLeft')
 # ---- numbers and fields
 names('numbers.specs.Integers', 'numbers.specs.Integers', 'integerOf=readIntegerAnswer')
@@ -175,7 +175,7 @@ CODE = [
     ('sectors::strip', 'visible::strip'), ('sector_writer::frame', 'sector_frame::frame'), ('sector_writer::over', 'sector_frame::over'),
     ('scramble::put_sync', 'sync::put_sync'), ('scramble::SyncPut', 'sync::SyncPut'),
     ('scramble::put_scrambling', 'sync::put_scrambling'), ('scramble::before_sync', 'sync::before_sync'),
-    ('reader::State', 'records::State'), ('reader::fresh', 'records::fresh'),
+    ('reader::State', 'reader_record::State'), ('reader::fresh', 'reader_record::fresh'),
     ('numbers::Put', 'number_writer::Put'), ('numbers::put_real', 'number_writer::put_real'),
     ('document::fields::', 'document_fields::'), ('document::dates::Moment', 'stamps::dates::DateTime'),
     ('document::lines::Lines', 'document_stamps::lines::Numbered'), ('document::lines::', 'document_stamps::lines::'),

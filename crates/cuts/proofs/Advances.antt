@@ -11,20 +11,20 @@ use lib.ListN.{length, drop, length-append, length-drop}
 use Rattle.bits.specs.Bits.{inARow}
 use Rattle.bits.proofs.Digits.{no-digits}
 use Rattle.formats.specs.Formats.{lineBytes}
-use Rattle.scan.specs.Call.{Call, more, whole}
+use Rattle.reader_bits.specs.Call.{Call, more, whole}
 use Rattle.cuts.specs.Driven as driven
 use Rattle.cuts.specs.Driven.{lentFor, Driven, takenIn}
-use Rattle.scan.specs.Lines.{isTail}
-use Rattle.scan.specs.Phase.{seeking, within, Bench}
-use Rattle.scan.specs.Scan.{stepOf, doneOf}
+use Rattle.reader_bits.specs.Lines.{isTail}
+use Rattle.reader_bits.specs.Phase.{seeking, within, Bench}
+use Rattle.reader_bits.specs.Loops.{stepOf, doneOf}
 use Rattle.reader.specs.Read.{callOf, callAnswer, readAnswer, readLeft, refusalOf, takenBy}
-use Rattle.records.specs.Records.{possibleOf, phaseOf}
-use Rattle.records.specs.declared.State.{State}
+use Rattle.reader_record.specs.Records.{possibleOf, phaseOf}
+use Rattle.reader_record.specs.declared.State.{State}
 use Rattle.reader.specs.declared.Answer.{Answer}
 use Rattle.reader.specs.declared.Answer.the-variants.{More}
 use Rattle.cuts.proofs.Calls.{takenOf, taken-most, taken-least, Quiet}
 use Rattle.cuts.proofs.Cases.{read-cases}
-use Rattle.records.proofs.Checked.{Facts, facts, counts-true-in}
+use Rattle.reader_record.proofs.Checked.{Facts, facts, counts-true-in}
 use Rattle.cuts.proofs.Demand.{some-window, some-bytes}
 use Rattle.cuts.proofs.Simulates as simulates
 use Rattle.cuts.proofs.Simulates.{seeking-quiet}

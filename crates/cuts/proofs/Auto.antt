@@ -11,7 +11,7 @@ use borrow.Author.Tests.{leb-true, leb-false, ltb-true, ltb-false, le-leb, lt-le
 use lib.Dec.{leb, ltb}
 use lib.ListN.{length, take, drop, length-drop, length-append}
 use lib.Seq.{take-at, drop-at}
-use Rattle.scan.specs.Lines.{opens, afterTail, lineThen, linesOf}
+use Rattle.reader_bits.specs.Lines.{opens, afterTail, lineThen, linesOf}
 use Rattle.cuts.proofs.Windows.{opens-short, opens-window, after-short, after-hit, after-miss, linesOf-eq}
 
 pub data Auto : Type 0 where

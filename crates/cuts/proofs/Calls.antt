@@ -13,8 +13,8 @@ use lib.Seq.{drop-drop}
 use Rattle.bits.specs.Bits.{digits, bitsOf}
 use Rattle.bits.proofs.Bytes.{bits-cons}
 use Rattle.bits.proofs.Digits.{digits-low, no-digits}
-use Rattle.scan.specs.Call.{bitOf, Call, more, whole, bitsThen, bytesFrom, call}
-use Rattle.scan.proofs.Resume.{bit-lt}
+use Rattle.reader_bits.specs.Call.{bitOf, Call, more, whole, bitsThen, bytesFrom, call}
+use Rattle.reader_bits.proofs.Resume.{bit-lt}
 
 -- what a call took
 abbrev pub takenOf : {S : Type 0} → Call S → ℕ

@@ -10,8 +10,8 @@ use borrow.Author.Tests.{eqb-true, eqb-false}
 use lib.Dec.{eqb}
 use lib.ListN.{length}
 use Rattle.refusals.specs.Refusals.{answered, kept}
-use Rattle.records.specs.Records.{possibleOf}
-use Rattle.records.specs.declared.State.{State}
+use Rattle.reader_record.specs.Records.{possibleOf}
+use Rattle.reader_record.specs.declared.State.{State}
 use Rattle.reader.specs.Read.{callOf, callAnswer, callLeft, servedAnswer, servedLeft, readRefusal, readAnswer, readLeft}
 use Rattle.reader.specs.declared.Answer.{Answer}
 use Rattle.reader.specs.declared.Answer.the-variants.{Refused, More}

@@ -14,7 +14,7 @@ use Rattle.bits.proofs.Bytes.{bits-append, no-bits}
 use Rattle.bits.proofs.Digits.{digits-below, no-digits}
 use Rattle.bits.proofs.Below.{below-append}
 use Rattle.bits.proofs.Bytes.{bits-below}
-use Rattle.scan.specs.Call.{Call, more, whole, call}
+use Rattle.reader_bits.specs.Call.{Call, more, whole, call}
 use Rattle.cuts.proofs.Calls.{takenOf, Gives, gives-call, taken-least, outs, Quiet, stream, stream-call}
 
 module _ {S O : Type 0} (step : S → ℕ → S) (done : S → ℕ → Bool) (out : S → O) (swap : ℕ → S → S) where

@@ -11,15 +11,15 @@ use Rattle.bits.specs.Bits.{inARow, bitsOf}
 use Rattle.formats.specs.Formats.{lineBytes, formatOf}
 use Rattle.formats.specs.declared.Format.{Format}
 use Rattle.formats.specs.declared.FormatAnswer.the-variants.{Is}
-use Rattle.scan.specs.Call.{Call, more, whole, call}
+use Rattle.reader_bits.specs.Call.{Call, more, whole, call}
 use Rattle.cuts.specs.Driven as driven
 use Rattle.cuts.specs.Driven.{lentFor, oneBuffer, lineIn, Driven}
-use Rattle.scan.specs.Lines.{isTail, lines, recorded}
-use Rattle.scan.specs.Phase.{Phase, seeking, within, Bench}
-use Rattle.scan.specs.Scan.{stepOf, doneOf}
+use Rattle.reader_bits.specs.Lines.{isTail, lines, recorded}
+use Rattle.reader_bits.specs.Phase.{Phase, seeking, within, Bench}
+use Rattle.reader_bits.specs.Loops.{stepOf, doneOf}
 use Rattle.reader.specs.Read.{callAnswer, callLeft, readAnswer, readLeft}
-use Rattle.records.specs.Records.{freshState, stateOf}
-use Rattle.records.specs.declared.State.{State}
+use Rattle.reader_record.specs.Records.{freshState, stateOf}
+use Rattle.reader_record.specs.declared.State.{State}
 use Rattle.reader.specs.declared.Answer.the-variants.{More, Line}
 use Rattle.cuts.proofs.Cuts as cuts
 use Rattle.cuts.proofs.Reached.{Good, LeftBy, fresh-good, left-call, answers, buffers}

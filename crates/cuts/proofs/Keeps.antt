@@ -14,20 +14,20 @@ use Rattle.bits.specs.Bits.{digits}
 use Rattle.formats.specs.Formats.{lineBytes}
 use Rattle.scramble.specs.Sync.{fifteenOnes}
 use Rattle.scramble.specs.Wire.{plainBit}
-use Rattle.scan.specs.Call.{Call, more, whole}
+use Rattle.reader_bits.specs.Call.{Call, more, whole}
 use Rattle.cuts.specs.Driven as driven
 use Rattle.cuts.specs.Driven.{lineIn, NoTail}
-use Rattle.scan.specs.Lines.{isTail}
-use Rattle.scan.specs.Phase.{Phase, seeking, within, phaseNext, bufferNext, completes, Bench}
-use Rattle.scan.specs.Scan.{stepOf, doneOf}
+use Rattle.reader_bits.specs.Lines.{isTail}
+use Rattle.reader_bits.specs.Phase.{Phase, seeking, within, phaseNext, bufferNext, completes, Bench}
+use Rattle.reader_bits.specs.Loops.{stepOf, doneOf}
 use Rattle.reader.specs.Read.{callOf, callAnswer, callLeft, readAnswer, readLeft}
-use Rattle.records.specs.Records.{possibleOf, phaseOf, stateOf}
-use Rattle.records.specs.declared.State.{State}
+use Rattle.reader_record.specs.Records.{possibleOf, phaseOf, stateOf}
+use Rattle.reader_record.specs.declared.State.{State}
 use Rattle.reader.specs.declared.Answer.{Answer}
 use Rattle.reader.specs.declared.Answer.the-variants.{Refused, More, Line}
 use Rattle.cuts.proofs.Calls.{Gives, gives-call}
 use Rattle.cuts.proofs.Cases.{read-cases}
-use Rattle.records.proofs.Checked.{Facts, facts, counts-true-in}
+use Rattle.reader_record.proofs.Checked.{Facts, facts, counts-true-in}
 use Rattle.cuts.proofs.Reached.{Fit, fit-next}
 use Rattle.cuts.proofs.Stands.{after-line}
 

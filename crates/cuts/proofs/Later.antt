@@ -6,7 +6,7 @@ use native.Mathlib.Nat.{zero-lt-suc}
 use lib.ListN.{length, take}
 use Rattle.formats.specs.Formats.{informationBits}
 use Rattle.wire.specs.Parts.{lineOf}
-use Rattle.scan.specs.Lines.{isTail, lines}
+use Rattle.reader_bits.specs.Lines.{isTail, lines}
 use Rattle.cuts.proofs.Auto as auto
 
 -- the lines of the first bits stand first among the lines of all, whatever bits follow

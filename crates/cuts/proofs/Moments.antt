@@ -15,15 +15,15 @@ use Rattle.formats.specs.Formats.{informationBits, lineBytes, formatOf}
 use Rattle.formats.specs.declared.Format.{Format}
 use Rattle.formats.specs.declared.FormatAnswer.the-variants.{Is}
 use Rattle.wire.specs.Parts.{lineOf}
-use Rattle.scan.specs.Call.{Call, more, whole, call}
+use Rattle.reader_bits.specs.Call.{Call, more, whole, call}
 use Rattle.cuts.specs.Driven as driven
 use Rattle.cuts.specs.Driven.{lentFor, lineIn, Moment, bitsRead}
-use Rattle.scan.specs.Lines.{isTail, lines}
-use Rattle.scan.specs.Phase.{Phase, seeking, within, Bench}
-use Rattle.scan.specs.Scan.{stepOf, doneOf}
+use Rattle.reader_bits.specs.Lines.{isTail, lines}
+use Rattle.reader_bits.specs.Phase.{Phase, seeking, within, Bench}
+use Rattle.reader_bits.specs.Loops.{stepOf, doneOf}
 use Rattle.reader.specs.Read.{callAnswer, callLeft, readAnswer, readLeft}
-use Rattle.records.specs.Records.{stateOf}
-use Rattle.records.specs.declared.State.{State}
+use Rattle.reader_record.specs.Records.{stateOf}
+use Rattle.reader_record.specs.declared.State.{State}
 use Rattle.reader.specs.declared.Answer.{Answer}
 use Rattle.reader.specs.declared.Answer.the-variants.{More, Line}
 use Rattle.cuts.proofs.Auto as auto

@@ -8,7 +8,7 @@ use lib.ListN.{drop}
 use Rattle.bits.specs.Bits.{digits, bitsOf}
 use Rattle.bits.proofs.Bytes.{bits-cons}
 use Rattle.bits.proofs.Digits.{digits-low, no-digits}
-use Rattle.scan.specs.Call.{bitOf, Call, more, whole, bitsThen, bytesFrom, call}
+use Rattle.reader_bits.specs.Call.{bitOf, Call, more, whole, bitsThen, bytesFrom, call}
 use Rattle.cuts.proofs.Calls.{outs, after, drop-next}
 
 module _ {S O : Type 0} (step : S → ℕ → S) (done : S → ℕ → Bool) (out : S → O) where

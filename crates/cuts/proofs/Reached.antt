@@ -23,14 +23,14 @@ use Rattle.scramble.specs.Register.{nextRegister}
 use Rattle.scramble.specs.Sync.{fifteenOnes}
 use Rattle.scramble.proofs.Steps.{next-lt}
 use Rattle.scramble.specs.Wire.{plainBit}
-use Rattle.scan.specs.Call.{Call, call}
-use Rattle.scan.specs.Lines.{isTail}
-use Rattle.scan.specs.Phase.{Phase, seeking, within, phaseNext, Bench}
-use Rattle.scan.specs.Scan.{stepOf, doneOf}
+use Rattle.reader_bits.specs.Call.{Call, call}
+use Rattle.reader_bits.specs.Lines.{isTail}
+use Rattle.reader_bits.specs.Phase.{Phase, seeking, within, phaseNext, Bench}
+use Rattle.reader_bits.specs.Loops.{stepOf, doneOf}
 use Rattle.reader.specs.Read.{callOf, callAnswer, callLeft, servedAnswer, servedLeft, readRefusal, readAnswer, readLeft}
 use Rattle.reader.specs.declared.Answer.the-variants.{Refused}
-use Rattle.records.specs.Records.{countsOf, possibleOf, stateOf}
-use Rattle.records.specs.declared.State.{State}
+use Rattle.reader_record.specs.Records.{countsOf, possibleOf, stateOf}
+use Rattle.reader_record.specs.declared.State.{State}
 use Rattle.cuts.proofs.Calls.{Gives, gives-call}
 use Rattle.bits.proofs.Push.{push-lt}
 use Rattle.scramble.proofs.Wire.{plain-lt}

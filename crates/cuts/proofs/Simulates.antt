@@ -18,8 +18,8 @@ use Rattle.scramble.specs.Register.{nextRegister}
 use Rattle.scramble.specs.Sync.{fifteenOnes}
 use Rattle.scramble.specs.Wire.{plainBit}
 use Rattle.wire.specs.Parts.{lineOf}
-use Rattle.scan.specs.Lines.{linesOf}
-use Rattle.scan.specs.Phase.{Phase, seeking, within, phaseNext, bufferNext, completes, Bench, step, done}
+use Rattle.reader_bits.specs.Lines.{linesOf}
+use Rattle.reader_bits.specs.Phase.{Phase, seeking, within, phaseNext, bufferNext, completes, Bench, step, done}
 use Rattle.cuts.proofs.Auto.{Auto, seek, line, stepA, endsA, lineA, found, found-is}
 use Rattle.cuts.proofs.Calls.{outs, Quiet}
 use Rattle.cuts.proofs.Cuts.{Reads, reads-iff}

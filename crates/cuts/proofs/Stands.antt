@@ -20,8 +20,8 @@ use Rattle.scramble.specs.Sync.{fifteenOnes}
 use Rattle.scramble.specs.Wire.{plainBit}
 use Rattle.wire.specs.Parts.{lineOf}
 use Rattle.scramble.proofs.Steps.{after-more}
-use Rattle.scan.specs.Lines.{opens}
-use Rattle.scan.specs.Phase.{Phase, seeking, within, phaseNext, bufferNext, completes}
+use Rattle.reader_bits.specs.Lines.{opens}
+use Rattle.reader_bits.specs.Phase.{Phase, seeking, within, phaseNext, bufferNext, completes}
 use Rattle.cuts.proofs.Auto.{Auto, seek, line, stepA, endsA, lineA}
 use Rattle.bits.proofs.Push.{push-lt}
 use Rattle.scramble.proofs.Wire.{plain-lt}

@@ -10,7 +10,7 @@ use native.Mathlib.Omega.{arith}
 use borrow.Author.Tests.{le-leb, lt-leb}
 use lib.ListN.{length, drop, length-drop, length-append}
 use lib.Seq.{take-all, take-at, drop-at}
-use Rattle.scan.specs.Lines.{opens, afterTail, lineThen, linesUpTo, linesOf}
+use Rattle.reader_bits.specs.Lines.{opens, afterTail, lineThen, linesUpTo, linesOf}
 
 module _ (W : ℕ) (test : List ℕ → Bool) where
   -- fewer bits than a window has: no window

@@ -9,8 +9,8 @@ use lib.ListN.{length, take, drop}
 use Rattle.bits.specs.Bits.{bitsOf}
 use Rattle.formats.specs.Formats.{lineBytes}
 use Rattle.reader.specs.Read.{readAnswer, readLeft}
-use Rattle.records.specs.Records.{freshState}
-use Rattle.records.specs.declared.State.{State}
+use Rattle.reader_record.specs.Records.{freshState}
+use Rattle.reader_record.specs.declared.State.{State}
 use Rattle.reader.specs.declared.Answer.the-variants.{Refused, More, Line}
 
 -- the buffer of call k: inside a line it stays; between lines it is what the caller makes of it, `lend k`

@@ -15,8 +15,8 @@ use Rattle.formats.specs.declared.Format.{Format}
 use Rattle.formats.specs.declared.FormatAnswer.the-variants.{Is}
 use Rattle.bits.specs.Bits.{inARow}
 use Rattle.cuts.specs.Driven.{Driven, lineIn}
-use Rattle.scan.specs.Lines.{recorded}
-use Rattle.records.specs.Records.{freshState}
+use Rattle.reader_bits.specs.Lines.{recorded}
+use Rattle.reader_record.specs.Records.{freshState}
 use Rattle.cuts.proofs.Demand.{demand-3}
 use Rattle.sectors.specs.Layout.{layoutOf}
 use Rattle.sectors.specs.Sector.{answerOf, fillerOf, dataOf, pixelsOf}

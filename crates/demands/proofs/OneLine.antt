@@ -8,7 +8,7 @@ use lib.ListN.{length, getD, drop}
 use Rattle.bits.proofs.Fields.{length-fields}
 use Rattle.cuts.specs.Driven.{lineIn, NoTail}
 use Rattle.reader.specs.Read.{readAnswer, readLeft}
-use Rattle.records.specs.declared.State.{State}
+use Rattle.reader_record.specs.declared.State.{State}
 use Rattle.reader.specs.declared.Answer.the-variants.{Line}
 use Rattle.cuts.proofs.Keeps.{line-stands}
 use Rattle.sectors.specs.Asked.{lineRefusal}

@@ -24,8 +24,8 @@ use Rattle.wire.proofs.Wire.{line-back}
 use Rattle.fixed.specs.Written.{firstSearched, nextSearched}
 use Rattle.fixed.proofs.Sync.{length-sync, tail-ends}
 use Rattle.fixed.proofs.Windows.{earlier-not-tail}
-use Rattle.scan.specs.Lines.{windowBits, isTail, lines, recorded}
-use Rattle.scan.proofs.TailTest.{tail-only, tail-itself}
+use Rattle.reader_bits.specs.Lines.{windowBits, isTail, lines, recorded}
+use Rattle.reader_bits.proofs.TailTest.{tail-only, tail-itself}
 use Rattle.writer.specs.Wire.{onWire, wireBytes}
 use Rattle.writer.proofs.Ways.{wire-whole, on-wire-below}
 use Rattle.demands.specs.RoundTrip.{PlainLine, PlainLines, recordingOf}

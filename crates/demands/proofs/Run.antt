@@ -11,7 +11,7 @@ use native.Mathlib.Omega.{arith}
 use borrow.Author.Tests.{le-leb, lt-leb}
 use lib.ListN.{length, take, drop, length-append}
 use lib.Seq.{take-at, drop-at, take-append-le}
-use Rattle.scan.specs.Lines.{opens, afterTail, lineThen, linesOf}
+use Rattle.reader_bits.specs.Lines.{opens, afterTail, lineThen, linesOf}
 use Rattle.cuts.proofs.Windows.{after-hit, after-less, linesOf-eq}
 
 module _ (W : ℕ) (test : List ℕ → Bool) (some-bits : zero < W) where

@@ -12,8 +12,8 @@ use Rattle.formats.specs.Formats.{unknown, formatRefusal, namedBy, checkStart, 
 use Rattle.bits.specs.Bits.{bitsOf, stretch, same, inBase}
 use Rattle.crc.specs.Remainder.{remainderOf}
 use Rattle.sync.specs.Put.{putSyncRefusal}
-use Rattle.records.specs.Records.{possibleOf}
-use Rattle.records.specs.declared.State.{State}
+use Rattle.reader_record.specs.Records.{possibleOf}
+use Rattle.reader_record.specs.declared.State.{State}
 use Rattle.reader.specs.Read.{readRefusal}
 use Rattle.writer.specs.Wire.{writeLineRefusal}
 use Rattle.sectors.specs.declared.layout.Layout.{Layout}

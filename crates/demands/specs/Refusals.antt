@@ -10,7 +10,7 @@ use Rattle.bits.specs.Bits.{bitsOf}
 use Rattle.sync.specs.Put.{putSyncAnswer, putSyncLeft}
 use Rattle.sync.specs.declared.SyncPut.the-variants as sync
 use Rattle.reader.specs.Read.{readAnswer, readLeft}
-use Rattle.records.specs.declared.State.{State}
+use Rattle.reader_record.specs.declared.State.{State}
 use Rattle.reader.specs.declared.Answer.the-variants as answer
 use Rattle.pixels.specs.Calls.{dataAnswer, dataLeft, pixelsAnswer, pixelsLeft}
 use Rattle.channels.specs.Join.{joinedAnswer, joinedLeft}

@@ -7,7 +7,7 @@ ghost use Prim.Native.Nat.{_≤_, _<_};
 ghost use lib.ListN.{length};
 use libc::STDOUT_FILENO;
 use reader::Answer;
-use records::State;
+use reader_record::State;
 
 // The bytes that a recording here can have, and those of a line.
 const SPACE: usize = 89000;
@@ -116,7 +116,7 @@ fn turn(r: Run, rec: &[u8], size: usize, line: &mut [u8; LINE]) -> Run
 fn drive(rec: &[u8], size: usize, line: &mut [u8; LINE]) -> Run {
     let mut r = Run {
         at: 0,
-        state: records::fresh(),
+        state: reader_record::fresh(),
         lines: 0,
         ended: 0,
         unread: 0,
@@ -277,14 +277,14 @@ fn offsets() {
 fn nothing() {
     let none = [0u8; 1];
     let mut line = [0u8; LINE];
-    let a = reader::read(1, records::fresh(), &none[..0], &mut line);
+    let a = reader::read(1, reader_record::fresh(), &none[..0], &mut line);
     number(b"empty piece: taken ", wide(taken(a)));
     say(b"\n");
 }
 
 // Refusals, both sides of each.
 fn refusals() {
-    let s = records::fresh();
+    let s = reader_record::fresh();
     asked(b"format 0", 0, s);
     asked(b"format 1", 1, s);
     asked(b"format 2", 2, s);

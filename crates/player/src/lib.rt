@@ -8,7 +8,7 @@ ghost use Rattle.player.specs.Places.{Places};
 use libc::STDERR_FILENO;
 use libc::STDIN_FILENO;
 use reader::Answer;
-use records::State;
+use reader_record::State;
 
 // The bytes of one piece.
 pub const PIECE: usize = 65536;
@@ -32,7 +32,7 @@ pub fn start(fd: i32, format: u8) -> Player
     Player {
         fd: fd,
         format: format,
-        state: records::fresh(),
+        state: reader_record::fresh(),
         from: 0,
         to: 0,
         whole: false,

@@ -10,17 +10,17 @@ use lib.ListN.{length, drop}
 use Rattle.formats.specs.declared.Format.{Format}
 use Rattle.formats.specs.declared.FormatAnswer.the-variants.{Is}
 use Rattle.formats.specs.Formats.{formatOf}
-use Rattle.records.specs.declared.State.{State}
+use Rattle.reader_record.specs.declared.State.{State}
 use Rattle.reader.specs.declared.Answer.{Answer}
 use Rattle.reader.specs.declared.Answer.the-variants.{Refused, More, Line}
 use Rattle.bits.specs.Bits.{inARow}
-use Rattle.scan.specs.Call.{Call, more, whole}
+use Rattle.reader_bits.specs.Call.{Call, more, whole}
 use Rattle.cuts.specs.Driven as driven
 use Rattle.cuts.specs.Driven.{Driven, lentFor, lineIn}
 use Rattle.reader.specs.Read.{readAnswer, readLeft, callOf, callAnswer}
-use Rattle.scan.specs.Phase.{Bench}
-use Rattle.records.specs.Records.{freshState}
-use Rattle.scan.specs.Lines.{recorded}
+use Rattle.reader_bits.specs.Phase.{Bench}
+use Rattle.reader_record.specs.Records.{freshState}
+use Rattle.reader_bits.specs.Lines.{recorded}
 use Rattle.cuts.proofs.Cases.{read-cases}
 use Rattle.cuts.proofs.Demand.{demand-3}
 use Rattle.rack_recording.specs.declared.ReaderState.{ReaderState}

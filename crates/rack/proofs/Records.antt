@@ -6,10 +6,10 @@ use mathlib.Core.Path.{_≡_, refl, ap}
 use Prim.Native.Nat.{ℕ, zero, _<_}
 use native.Mathlib.Omega.{arith}
 use lib.Dec.{ltb, eqb}
-use Rattle.records.specs.declared.State.{State}
+use Rattle.reader_record.specs.declared.State.{State}
 use Rattle.reader.specs.declared.Answer.{Answer}
 use Rattle.reader.specs.declared.Answer.the-variants.{Refused, More, Line}
-use Rattle.records.specs.Records.{freshState}
+use Rattle.reader_record.specs.Records.{freshState}
 use Rattle.reader.specs.Read.{readAnswer, readLeft}
 use Rattle.cuts.proofs.Keeps.{refused-stays}
 use Rattle.refusals.specs.Refusals.{first}

@@ -6,7 +6,7 @@ use mathlib.Core.List.{List}
 use lib.Dec.{eqb, ltb}
 use Rattle.refusals.specs.Refusals.{first}
 use Rattle.formats.specs.Formats.{formatRefusal}
-use Rattle.records.specs.declared.State.{State}
+use Rattle.reader_record.specs.declared.State.{State}
 use Rattle.reader.specs.declared.Answer.{Answer}
 use Rattle.reader.specs.declared.Answer.the-variants.{Refused, More, Line}
 use Rattle.reader.specs.Read.{readAnswer, readLeft}

@@ -8,18 +8,18 @@
 //
 // A slice crosses as a pointer and a count; slices that are lent to one call must not overlap.
 ghost use mathlib.Core.Path.{_≡_};
-ghost use Rattle.records.specs.Records.{freshState};
+ghost use Rattle.reader_record.specs.Records.{freshState};
 ghost use Rattle.writer.specs.Wire.{writeLineAnswer, writeLineLeft};
 ghost use Rattle.rack_recording.specs.Recording.{handedOf, keptOf, refusedRead, readGiven, readOf, lineLeft, writtenGiven};
 use formats::format_refusal;
 use rack_number::CountAnswer;
 use reader::Answer;
-use records::State;
+use reader_record::State;
 use refusals::first;
 use writer::Written;
 
 // What a reader keeps between calls, laid out without gaps. `in_line` is 1 in a line and 0 between lines; a record with
-// another number there is impossible. The other fields are those of `records::State`.
+// another number there is impossible. The other fields are those of `reader_record::State`.
 #[repr(C)]
 pub struct ReaderState {
     pub position: usize,
@@ -98,7 +98,7 @@ fn refused_read(n: u8, s: ReaderState) -> ReadAnswer
 pub extern "C" fn hansobrik_fresh() -> ReaderState
     ensures { λ r. ⌜ r ≡ keptOf freshState ⌝ }
 {
-    kept(records::fresh())
+    kept(reader_record::fresh())
 }
 
 // Inner. The answer of a read as it crosses the boundary, with the record that was handed in.

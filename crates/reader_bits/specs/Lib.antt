@@ -1,0 +1,4 @@
+pub mod Lines
+pub mod Call
+pub mod Phase
+pub mod Loops

@@ -1,4 +1,0 @@
-pub mod Lines
-pub mod Call
-pub mod Phase
-pub mod Scan
