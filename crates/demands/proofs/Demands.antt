@@ -4,11 +4,9 @@
 use mathlib.Core.List.{List, map}
 use mathlib.Core.Logic.{_↔_}
 use mathlib.Core.Path.{_≡_, sym, ap, _∙_}
-use Prim.Native.Nat.{ℕ, _+_, _^_, _≤_}
-use native.Mathlib.Omega.{arith}
+use Prim.Native.Nat.{ℕ, _^_, _≤_}
 use lib.ListN.{length, take}
 use Rattle.bits.specs.Bits.{bitsOf, Below}
-use Rattle.bits.proofs.Bytes.{length-bits}
 use Rattle.bits.proofs.Fields.{packed-inj}
 use Rattle.formats.specs.Formats.{formatOf, lineBytes, checkStart}
 use Rattle.formats.specs.declared.Format.{Format}
@@ -20,15 +18,9 @@ use Rattle.reader_record.specs.Records.{freshState}
 use Rattle.cuts.proofs.Demand.{demand-3}
 use Rattle.sectors.specs.Layout.{layoutOf}
 use Rattle.sectors.specs.Sector.{answerOf, fillerOf, dataOf, pixelsOf}
-use Rattle.refusals.proofs.Words.{kept-none}
-use Rattle.sectors.proofs.Table.{sound}
-use Rattle.sector_frame.specs.Written.{sectorWritten, dataWritten, pixelsWritten}
 use Rattle.sector_rounds.specs.Cleared.{clearedOf}
 use Rattle.sector_writer.specs.Calls.{putDataAnswer, putDataLeft, putPixelsAnswer, putPixelsLeft}
-use Rattle.sector_rounds.proofs.Back.{written-accepted, written-filler}
-use Rattle.sector_frame.proofs.Frames.{length-data-written, length-pixels-written}
-use Rattle.sector_rounds.proofs.RoundTrip.{data-back, pixels-back}
-use Rattle.sector_writer.proofs.Writable.{data-writable, pixels-writable, pixels-fit}
+use Rattle.sector_rounds.proofs.Rounds.{data-framed, pixels-framed}
 use Rattle.demands.specs.RoundTrip.{PlainLine, PlainLines, recordingOf}
 use Rattle.demands.proofs.RoundTrip.{round-trip}
 
@@ -56,35 +48,13 @@ module _ (f k : ℕ) (line : List ℕ) where
   -- DATA: accepted, no filler set, and the data bytes again, spare bits cleared
   pub data-there-and-back : (bytes buf : List ℕ) → Below (2 ^ 8) bytes → putDataAnswer f (length line) k (length bytes) ≡ 0 → lineIn buf ≡ putDataLeft f line k bytes
       → (answerOf (checkStart f) (layoutOf k) (lineIn buf) ≡ 0) × (fillerOf (layoutOf k) (lineIn buf) ≡ 0) × (dataOf (layoutOf k) (lineIn buf) ≡ clearedOf (layoutOf k) bytes)
-  unfolding putDataLeft
   data-there-and-back bytes buf small e same =
-      let w = data-writable f (length line) k (length bytes) e in
-      let low = w .low in
-      let high = w .high in
-      let s = sound k (omega arith) (omega arith) in
-      let long : layoutOf k .start + layoutOf k .bits ≤ length (bitsOf line) = omega (arith, length-bits line, w .long, s .inside) in
-      let d : List ℕ = dataWritten (layoutOf k) bytes in
-      let written : lineIn buf ≡ sectorWritten (checkStart f) (layoutOf k) d (bitsOf line) = same ∙ kept-none (putDataAnswer f (length line) k (length bytes)) (bitsOf line) _ e in
-      let dl = length-data-written (layoutOf k) bytes (w .given-all) in (
-        ap (answerOf (checkStart f) (layoutOf k)) written ∙ written-accepted (checkStart f) (layoutOf k) d (bitsOf line) s long dl,
-        ap (fillerOf (layoutOf k)) written ∙ written-filler (checkStart f) (layoutOf k) d (bitsOf line) s long dl,
-        ap (dataOf (layoutOf k)) written ∙ data-back (checkStart f) (layoutOf k) (bitsOf line) s long bytes (w .given-all) small,
-      )
+      let w = data-framed f k line (lineIn buf) bytes small e same in
+      (w .0 .answer, w .0 .filler, w .1)
 
   -- PIXELS: accepted, no filler set, and the pixels again, at every width
   pub pixels-there-and-back : (lo hi : ℕ) (ps buf : List ℕ) → 1 ≤ lo → hi ≤ 12 → putPixelsAnswer lo hi f (length line) k ps ≡ 0 → lineIn buf ≡ putPixelsLeft lo hi f line k ps
       → (answerOf (checkStart f) (layoutOf k) (lineIn buf) ≡ 0) × (fillerOf (layoutOf k) (lineIn buf) ≡ 0) × (pixelsOf (layoutOf k) (lineIn buf) ≡ take (layoutOf k .count) ps)
-  unfolding putPixelsLeft
   pixels-there-and-back lo hi ps buf one twelve e same =
-      let w = pixels-writable lo hi f (length line) k ps e in
-      let low = w .low in
-      let high = w .high in
-      let s = sound k (omega arith) (omega arith) in
-      let long : layoutOf k .start + layoutOf k .bits ≤ length (bitsOf line) = omega (arith, length-bits line, w .long, s .inside) in
-      let d : List ℕ = pixelsWritten (layoutOf k) ps in
-      let written : lineIn buf ≡ sectorWritten (checkStart f) (layoutOf k) d (bitsOf line) = same ∙ kept-none (putPixelsAnswer lo hi f (length line) k ps) (bitsOf line) _ e in
-      let dl = length-pixels-written (layoutOf k) ps s (w .given-all) in (
-        ap (answerOf (checkStart f) (layoutOf k)) written ∙ written-accepted (checkStart f) (layoutOf k) d (bitsOf line) s long dl,
-        ap (fillerOf (layoutOf k)) written ∙ written-filler (checkStart f) (layoutOf k) d (bitsOf line) s long dl,
-        ap (pixelsOf (layoutOf k)) written ∙ pixels-back (checkStart f) (layoutOf k) (bitsOf line) s long ps (w .given-all) (pixels-fit lo hi f (length line) k ps e),
-      )
+      let w = pixels-framed lo hi f k line (lineIn buf) ps one twelve e same in
+      (w .0 .answer, w .0 .filler, w .1)
