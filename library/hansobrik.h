@@ -9,7 +9,7 @@
  * - Buffers lent to one call must not overlap, and one that is written must not be read or written by anybody else meanwhile.
  * - `refused`, or the number that comes back alone, is 0 or one of the refusal numbers below; they are tested in the order in
  *   which they stand here, and the comment of a call names its own. A refused call changes no buffer; its answer has 0 in
- *   every other field, but the reader's record and an assembly's marks come back as they were handed in.
+ *   every other field, but the reader's record, a register and an assembly's marks come back as they were handed in.
  * - Bytes of a buffer behind a call's result are kept.
  * - Numbers have the width that is declared: C cuts a wider one without a word, so compile with -Wconversion.
  *
@@ -103,7 +103,7 @@ typedef struct {
 typedef struct {
     uint8_t refused;
     uint8_t bit;           /* the scrambling bit that the step gave */
-    uint16_t register_;    /* the register after it */
+    uint16_t register_;    /* the register after it; as it was handed in where the step is refused */
 } hansobrik_step_answer;
 
 typedef struct {
@@ -213,10 +213,10 @@ typedef struct {
 /* The lengths of a format. 1. */
 hansobrik_format_answer hansobrik_format(uint8_t format);
 
-/* One step of the scrambling register, by value. 12 for a register over fifteen bits. */
+/* One step of the scrambling register, by value. A register over fifteen bits comes back as it was. 12. */
 hansobrik_step_answer hansobrik_stepped(uint16_t register_);
 
-/* The same of a register that is lent, and changes in place. 12. */
+/* The same of a register that is lent, and changes in place; a refused one stays as it was. 12. */
 hansobrik_step_answer hansobrik_step(uint16_t *register_);
 
 /* SYNC at the front of out; count is its bytes. 1, 3. */

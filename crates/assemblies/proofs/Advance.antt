@@ -3,24 +3,22 @@
 use mathlib.Core.Path.{_≡_, refl, sym, ap, subst, _∙_}
 use mathlib.Core.Bool.{Bool, true, false, true≢false}
 use mathlib.Core.List.{List}
-use Prim.Native.Nat.{ℕ, _*_, _≤_}
-use native.Mathlib.Omega.{arith}
+use Prim.Native.Nat.{ℕ, zero, suc, _*_, _≤_}
 use lib.ListN.{length, drop}
 use Rattle.refusals.specs.Refusals.{when, answered}
+use Rattle.refusals.proofs.Words.{none-first}
 use Rattle.formats.specs.Formats.{lineBytes}
 use Rattle.bits.specs.Bits.{stretch, same}
 use Rattle.bits.proofs.Same.{same-eq}
-use Rattle.document.specs.declared.segments.SubCommutation.{SubCommutation}
-use Rattle.document.specs.declared.segments.SubCommutation.the-variants as sub
 use Rattle.blocks.specs.declared.block.Block.{Block}
 use Rattle.blocks.specs.declared.marks.Marks.{Marks}
 use Rattle.blocks.specs.Blocks.{blockOf, segmentBytes, Sound}
 use Rattle.blocks.specs.Marking.{marked}
 use Rattle.blocks.proofs.Rows.{sound}
-use Rattle.segments.specs.declared.Added.the-variants.{Is, Refused}
-use Rattle.segments.specs.Assembly.{segmentOf, copyRefusal, placeAnswer, placeLeft, carriedAnswer, addSegmentAnswer, addSegmentLeft, marksAfter}
-use Rattle.segments.proofs.Known.{Carries, carries, added-is, added-refused}
-use Rattle.assemblies.specs.Runs.{Assembly, step, taken, segmentIn}
+use Rattle.segments.specs.declared.Added.the-variants.{Refused}
+use Rattle.segments.specs.Assembly.{segmentOf, marksWith, placedOn, copyRefusal, placeAnswer, placeLeft, segmentIn, carriedRefusal, addSegmentRefusal, addSegmentAnswer, addSegmentLeft, marksAfter}
+use Rattle.segments.proofs.Known.{Carries, carries, added-is}
+use Rattle.assemblies.specs.Runs.{Assembly, step, taken}
 use Rattle.assemblies.proofs.Marking.{marked-own, marked-other}
 use Rattle.assemblies.proofs.Stored.{stored-own, stored-other, stored-behind}
 
@@ -43,7 +41,7 @@ module _ (b : Block) (m : Marks) (line : List ℕ) (block : List ℕ) where
   -- a later copy
   again : segmentIn line ≤ 24 → marked m (segmentIn line) ≡ true → (t : Bool) → same (segmentOf b line) (stretch block (segmentIn line * segmentBytes b) (segmentBytes b)) ≡ t
       → taken (placeAnswer b m line (segmentIn line) block) ≡ true → Advanced b line Before After
-  unfolding placeAnswer placeLeft copyRefusal when answered
+  unfolding placeAnswer placeLeft copyRefusal marksWith when answered
   again k h true e ok =
       rw (h, e) (record {
         small = k;
@@ -58,7 +56,7 @@ module _ (b : Block) (m : Marks) (line : List ℕ) (block : List ℕ) where
 
   -- a first copy
   new : Sound b → lineBytes ≤ length line → b .size ≤ length block → segmentIn line ≤ 24 → marked m (segmentIn line) ≡ false → Advanced b line Before After
-  unfolding placeAnswer placeLeft copyRefusal when answered
+  unfolding placeAnswer placeLeft copyRefusal marksWith when answered
   new sb long whole k h =
       let s : ℕ = segmentIn line in
       let other : (t : ℕ) → marked m t ≡ true → t ≡ s → ⊥ = λ t p e. true≢false (sym p ∙ ap (marked m) e ∙ h) in
@@ -80,23 +78,22 @@ module _ (b : Block) (m : Marks) (line : List ℕ) (block : List ℕ) where
       by true h = again k h (same (segmentOf b line) (stretch block (segmentIn line * segmentBytes b) (segmentBytes b))) refl ok
       by false h = new sb long whole k h
 
-module _ (f n : ℕ) (a : Assembly) (line : List ℕ) where
-  given : (s r : ℕ) → carriedAnswer f (a .marks) line n (length (a .block)) ≡ sub.Is s r → taken (addSegmentAnswer f (a .marks) line n (a .block)) ≡ true → Advanced (blockOf n) line a (step f n a line)
-  unfolding step
-  given s r e ok =
-      let m : Marks = a .marks in
-      let block : List ℕ = a .block in
-      let h : Carries f m line n (length block) s = carries f m line n (length block) s r e in
-      let is = added-is f m line n block (segmentIn line) r (e ∙ ap (λ (x : ℕ). sub.Is x r) (sym (h .is))) in
-      let after : Assembly = record { marks = marksAfter m (placeAnswer (blockOf n) m line (segmentIn line) block); block = placeLeft (blockOf n) m line (segmentIn line) block } in
-      let equal : after ≡ record { marks = marksAfter m (addSegmentAnswer f m line n block); block = addSegmentLeft f m line n block } = λ i. record { marks = marksAfter m (sym (is .0) i); block = sym (is .1) i } in
-      subst (λ (x : Assembly). Advanced (blockOf n) line a x) equal
-      (placed-advances (blockOf n) m line block (sound n (h .low) (h .high)) (h .long) (h .room) (omega (arith, h .is, h .segment)) (ap taken (sym (is .0)) ∙ ok))
+-- an answer that is no refusal: nothing refused the call
+taken-none : (k : ℕ) (m : Marks) (s : ℕ) → taken (answered Refused k (placedOn m s)) ≡ true → k ≡ 0
+unfolding answered
+taken-none zero m s ok = refl
+taken-none (suc k) m s ok = absurd (true≢false (sym ok))
 
-  by-carried : (x : SubCommutation) → carriedAnswer f (a .marks) line n (length (a .block)) ≡ x → taken (addSegmentAnswer f (a .marks) line n (a .block)) ≡ true → Advanced (blockOf n) line a (step f n a line)
-  by-carried (sub.Refused k) e ok = absurd (true≢false (sym (ap taken (sym (added-refused f (a .marks) line n (a .block) k e .0)) ∙ ok)))
-  by-carried (sub.Is s r) e ok = given s r e ok
-
-  -- WHAT A LINE DOES that is not refused
-  pub advances : taken (addSegmentAnswer f (a .marks) line n (a .block)) ≡ true → Advanced (blockOf n) line a (step f n a line)
-  advances ok = by-carried (carriedAnswer f (a .marks) line n (length (a .block))) refl ok
+-- WHAT A LINE DOES that is not refused
+pub advances : (f n : ℕ) (a : Assembly) (line : List ℕ) → taken (addSegmentAnswer f (a .marks) line n (a .block)) ≡ true → Advanced (blockOf n) line a (step f n a line)
+unfolding step addSegmentAnswer addSegmentRefusal
+advances f n a line ok =
+    let m : Marks = a .marks in
+    let block : List ℕ = a .block in
+    let none : carriedRefusal f m line n (length block) ≡ 0 = none-first _ _ (taken-none (addSegmentRefusal f m line n block) m (segmentIn line) ok) in
+    let h : Carries m line n (length block) = carries f m line n (length block) none in
+    let is = added-is f m line n block none in
+    let after : Assembly = record { marks = marksAfter m (placeAnswer (blockOf n) m line (segmentIn line) block); block = placeLeft (blockOf n) m line (segmentIn line) block } in
+    let equal : after ≡ record { marks = marksAfter m (addSegmentAnswer f m line n block); block = addSegmentLeft f m line n block } = λ i. record { marks = marksAfter m (sym (is .0) i); block = sym (is .1) i } in
+    subst (λ (x : Assembly). Advanced (blockOf n) line a x) equal
+    (placed-advances (blockOf n) m line block (sound n (h .low) (h .high)) (h .long) (h .room) (h .segment) (ap taken (sym (is .0)) ∙ ok))

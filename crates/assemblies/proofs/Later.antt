@@ -12,11 +12,11 @@ use Rattle.blocks.specs.declared.marks.Marks.{Marks}
 use Rattle.blocks.specs.Blocks.{segmentBytes}
 use Rattle.blocks.specs.Marking.{marked}
 use Rattle.segments.specs.declared.Added.the-variants as added
-use Rattle.segments.specs.Assembly.{segmentOf, placed, copyRefusal, placeAnswer, placeLeft}
+use Rattle.segments.specs.Assembly.{segmentOf, placed, marksWith, copyRefusal, placeAnswer, placeLeft}
 
 module _ (b : Block) (m : Marks) (line : List ℕ) (s : ℕ) (block : List ℕ) (known : marked m s ≡ true) where
   pub equal-copy : segmentOf b line ≡ stretch block (s * segmentBytes b) (segmentBytes b) → (placeAnswer b m line s block ≡ placed m s false) × (placeLeft b m line s block ≡ block)
-  unfolding placeAnswer placeLeft copyRefusal when answered
+  unfolding placeAnswer placeLeft copyRefusal marksWith when answered
   equal-copy e =
       let equal : same (segmentOf b line) (stretch block (s * segmentBytes b) (segmentBytes b)) ≡ true = ap (λ (l : List ℕ). same l (stretch block (s * segmentBytes b) (segmentBytes b))) e ∙ same-refl (stretch block (s * segmentBytes b) (segmentBytes b)) in
       (rw (known, equal), rw known)

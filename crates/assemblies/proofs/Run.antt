@@ -13,8 +13,8 @@ use Rattle.bits.specs.Bits.{stretch}
 use Rattle.blocks.specs.declared.block.Block.{Block}
 use Rattle.blocks.specs.Blocks.{blocks, blockOf, segmentBytes}
 use Rattle.blocks.specs.Marking.{allMarks, marked}
-use Rattle.segments.specs.Assembly.{segmentOf}
-use Rattle.assemblies.specs.Runs.{Assembly, begun, step, run, Taken, segmentIn, firstWith, named, All, sideBySide}
+use Rattle.segments.specs.Assembly.{segmentOf, segmentIn}
+use Rattle.assemblies.specs.Runs.{Assembly, begun, step, run, Taken, firstWith, named, All, sideBySide}
 use Rattle.assemblies.proofs.Advance.{Advanced, advances}
 use Rattle.assemblies.proofs.Marking.{marked-none, marked-all}
 use Rattle.assemblies.proofs.Stored.{parts}

@@ -1,46 +1,26 @@
 -- A refused line leaves an assembly as it was. So over ANY run of lines the finished block is that of the lines that were
 -- taken. Assumes nothing.
 use mathlib.Core.Path.{_≡_, refl, sym, ap, ap₂, _∙_, subst}
-use mathlib.Core.Bool.{Bool, true, false, not, _&&_, cond, false≢true}
+use mathlib.Core.Bool.{Bool, true, false, cond, false≢true}
 use mathlib.Core.List.{List, [], _∷_}
-use Prim.Native.Nat.{ℕ, _*_}
+use Prim.Native.Nat.{ℕ}
 use native.Mathlib.Omega.{arith}
-use lib.ListN.{length}
-use Rattle.refusals.specs.Refusals.{when, answered}
-use Rattle.bits.specs.Bits.{stretch, same}
-use Rattle.document.specs.declared.segments.SubCommutation.{SubCommutation}
-use Rattle.document.specs.declared.segments.SubCommutation.the-variants as sub
-use Rattle.blocks.specs.declared.block.Block.{Block}
+use Rattle.refusals.proofs.Given.{answered-kept}
 use Rattle.blocks.specs.declared.marks.Marks.{Marks}
-use Rattle.blocks.specs.Blocks.{blockOf, segmentBytes}
-use Rattle.blocks.specs.Marking.{allMarks, marked, withMark}
+use Rattle.blocks.specs.Blocks.{blockOf}
+use Rattle.blocks.specs.Marking.{allMarks}
 use Rattle.segments.specs.declared.Added.{Added}
 use Rattle.segments.specs.declared.Added.the-variants.{Is, Refused}
-use Rattle.segments.specs.Assembly.{segmentOf, storedOf, copyRefusal, placed, placeAnswer, placeLeft, carriedAnswer, addedBy, leftBy, addSegmentAnswer, addSegmentLeft, marksAfter}
+use Rattle.segments.specs.Assembly.{placedOn, segmentIn, addSegmentAnswer, addSegmentLeft, marksAfter}
 use Rattle.assemblies.specs.Runs.{Assembly, begun, step, run, taken, Taken, takenLines}
 use Rattle.assemblies.proofs.Run.{Finished, finished}
 
 -- ---- one line
 
-placed-refused : (b : Block) (m : Marks) (line : List ℕ) (s : ℕ) (block : List ℕ) (k : ℕ) → placeAnswer b m line s block ≡ Refused k → placeLeft b m line s block ≡ block
-unfolding placeAnswer placeLeft copyRefusal when answered
-placed-refused b m line s block k = go (marked m s)
-  where
-    differs : Bool
-    differs = not (same (segmentOf b line) (stretch block (s * segmentBytes b) (segmentBytes b)))
-
-    go : (t : Bool) → answered Refused (when (t && differs) 8) (cond t (placed m s false) (placed (withMark m s) s true)) ≡ Refused k → cond t block (storedOf b line s block) ≡ block
-    go true e = refl
-    go false e = absurd (let z : _≡_ {A = ℕ} 0 1 = cc in let w : ⊥ = omega arith in w)
-
-left-refused : (c : SubCommutation) (b : Block) (m : Marks) (line block : List ℕ) (k : ℕ) → addedBy c b m line block ≡ Refused k → leftBy c b m line block ≡ block
-left-refused (sub.Is s r) b m line block k e = placed-refused b m line s block k e
-left-refused (sub.Refused j) b m line block k e = refl
-
 -- a refused call leaves the block buffer
 pub block-refused : (f : ℕ) (m : Marks) (line : List ℕ) (n : ℕ) (block : List ℕ) (k : ℕ) → addSegmentAnswer f m line n block ≡ Refused k → addSegmentLeft f m line n block ≡ block
 unfolding addSegmentAnswer addSegmentLeft
-block-refused f m line n block k e = left-refused (carriedAnswer f m line n (length block)) (blockOf n) m line block k e
+block-refused f m line n block k e = answered-kept Refused _ (placedOn m (segmentIn line)) k block _ (λ d. let z : _≡_ {A = ℕ} 0 1 = cc in let w : ⊥ = omega arith in w) e
 
 -- a refused line changes nothing
 pub step-refused : (f n : ℕ) (a : Assembly) (l : List ℕ) → taken (addSegmentAnswer f (a .marks) l n (a .block)) ≡ false → step f n a l ≡ a

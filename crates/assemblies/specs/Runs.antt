@@ -5,12 +5,11 @@ use mathlib.Core.Path.{_≡_}
 use mathlib.Core.Bool.{Bool, true, false, cond}
 use mathlib.Core.List.{List, [], _∷_, _++_}
 use lib.Dec.{eqb}
-use Rattle.document.specs.Place.{docByte}
 use Rattle.blocks.specs.declared.marks.Marks.{Marks}
 use Rattle.blocks.specs.Marking.{noMarks}
 use Rattle.segments.specs.declared.Added.{Added}
 use Rattle.segments.specs.declared.Added.the-variants.{Is, Refused}
-use Rattle.segments.specs.Assembly.{addSegmentAnswer, addSegmentLeft, marksAfter}
+use Rattle.segments.specs.Assembly.{segmentIn, addSegmentAnswer, addSegmentLeft, marksAfter}
 
 -- an assembly
 pub record Assembly : Type 0 where
@@ -47,10 +46,7 @@ takenLines f n a [] = []
 takenLines f n a (l ∷ ls) =
     cond (taken (addSegmentAnswer f (a .marks) l n (a .block))) (l ∷ takenLines f n (step f n a l) ls) (takenLines f n (step f n a l) ls)
 
--- the segment that a line names, and the first line of a run that names it
-abbrev pub segmentIn : List ℕ → ℕ
-segmentIn line = docByte line 194
-
+-- the first line of a run that names a segment
 unfoldable pub firstWith : ℕ → List (List ℕ) → List ℕ
 firstWith s [] = []
 firstWith s (l ∷ ls) = cond (eqb (segmentIn l) s) l (firstWith s ls)

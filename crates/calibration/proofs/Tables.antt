@@ -3,16 +3,13 @@ use mathlib.Core.Path.{_≡_, refl}
 use Prim.Native.Nat.{ℕ, zero, suc, _+_, _*_, _-_, _≤_, _<_}
 use native.Mathlib.Omega.{arith}
 use mathlib.Core.List.{List}
-use lib.ListN.{length}
 use Rattle.bits.specs.Bits.{stretch}
-use Rattle.numbers.specs.declared.Real.the-variants.{Is}
 use Rattle.numbers.specs.Reals.{noReal}
-use Rattle.numbers.specs.Floats.{FitsIn}
-use Rattle.numbers.proofs.Answers.{real-fits, answered-fits}
-use Rattle.blocks.specs.declared.marks.Marks.{Marks}
+use Rattle.numbers.specs.Floats.{Fits}
+use Rattle.numbers.proofs.Answers.{real-fits}
 use Rattle.blocks.specs.Blocks.{blocks, blockOf, calibration2}
 use Rattle.calibration.specs.declared.Levels.{Levels}
-use Rattle.calibration.specs.Tables.{Table, albedos, temperatures, levelPlace, levelAt, levelRefusal, levelAnswer}
+use Rattle.calibration.specs.Tables.{Table, albedos, temperatures, levelPlace, levelAt}
 
 pub albedo-table : Table albedos
 unfolding noReal
@@ -42,10 +39,9 @@ pub p12 : (levelPlace temperatures 1 1023 ≡ 5373) × (levelPlace temperatures 
 p12 = (refl, refl)
 
 -- every level fits f64's exact numbers
-pub level-fits : (t : Levels) (f : ℕ) (m : Marks) (block : List ℕ) (c level : ℕ) → Table t → FitsIn (levelAnswer t f m block c level)
-unfolding levelAnswer levelAt FitsIn
-level-fits t f m block c level h =
-    answered-fits (levelRefusal t f m c level (length block)) (Is (levelAt t block c level)) (λ e. real-fits 4 (t .places) (stretch block (levelPlace t c level - 1) 4) (h .form))
+pub level-fits : (t : Levels) (block : List ℕ) (c level : ℕ) → Table t → Fits (levelAt t block c level)
+unfolding levelAt
+level-fits t block c level h = real-fits 4 (t .places) (stretch block (levelPlace t c level - 1) 4) (h .form)
 
 pub calibration-size : blockOf calibration2 .size ≡ 25600
 unfolding blockOf blocks

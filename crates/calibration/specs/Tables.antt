@@ -5,14 +5,15 @@ use mathlib.Core.Path.{_≡_}
 use mathlib.Core.Bool.{false}
 use mathlib.Core.List.{List}
 use lib.ListN.{length}
-use Rattle.refusals.specs.Refusals.{outsideOf, answered}
+use Rattle.refusals.specs.Refusals.{outsideOf, kept, answered, Genuine}
 use Rattle.bits.specs.Bits.{stretch}
 use Rattle.numbers.specs.declared.R.{R}
 use Rattle.numbers.specs.declared.Real.{Real}
-use Rattle.numbers.specs.declared.Real.the-variants.{Is, Refused}
+use Rattle.numbers.specs.declared.Real.the-variants as real
 use Rattle.numbers.specs.declared.Float.{Float}
-use Rattle.numbers.specs.Reals.{noReal, realIn}
-use Rattle.numbers.specs.Floats.{asFloat}
+use Rattle.numbers.specs.declared.Float.the-variants as float
+use Rattle.numbers.specs.Reals.{zeroReal, realNumber, realValue, noReal, realIn}
+use Rattle.numbers.specs.Floats.{zeroFloat, floatNumber, floatValue, valueOf}
 use Rattle.blocks.specs.declared.marks.Marks.{Marks}
 use Rattle.blocks.specs.Blocks.{calibration2}
 use Rattle.entries.specs.Entries.{entryRefusal}
@@ -45,21 +46,22 @@ levelRefusal t f m c level given = entryRefusal f m calibration2 (outsideOf 1 4 
 
 -- THE ANSWER to a level of a table
 unfoldable pub levelAnswer : Levels → ℕ → Marks → List ℕ → ℕ → ℕ → Real
-levelAnswer t f m block c level = answered Refused (levelRefusal t f m c level (length block)) (Is (levelAt t block c level))
+levelAnswer t f m block c level = answered real.Refused (levelRefusal t f m c level (length block)) (real.Is (levelAt t block c level))
 
--- in f64
+-- THE CONTRACT of `albedo` and `temperature`: the number of a refusal, and sign, magnitude and places, all 0 where it is refused
+abbrev pub LevelOk : Levels → ℕ → Marks → List ℕ → ℕ → ℕ → Real → Type 0
+LevelOk t f m block c level r =
+    (realNumber r ≡ levelRefusal t f m c level (length block))
+    × (realValue r ≡ kept (levelRefusal t f m c level (length block)) zeroReal (levelAt t block c level))
+    × Genuine real.Refused r
+
+-- the same in f64
 unfoldable pub levelF64Answer : Levels → ℕ → Marks → List ℕ → ℕ → ℕ → Float
-levelF64Answer t f m block c level = asFloat (levelAnswer t f m block c level)
+levelF64Answer t f m block c level = answered float.Refused (levelRefusal t f m c level (length block)) (float.Is (valueOf (levelAt t block c level)))
 
--- the four calls
-abbrev pub albedoAnswer : ℕ → Marks → List ℕ → ℕ → ℕ → Real
-albedoAnswer f m block c level = levelAnswer albedos f m block c level
-
-abbrev pub albedoF64Answer : ℕ → Marks → List ℕ → ℕ → ℕ → Float
-albedoF64Answer f m block c level = levelF64Answer albedos f m block c level
-
-abbrev pub temperatureAnswer : ℕ → Marks → List ℕ → ℕ → ℕ → Real
-temperatureAnswer f m block c level = levelAnswer temperatures f m block c level
-
-abbrev pub temperatureF64Answer : ℕ → Marks → List ℕ → ℕ → ℕ → Float
-temperatureF64Answer f m block c level = levelF64Answer temperatures f m block c level
+-- THE CONTRACT of `albedo_f64` and `temperature_f64`
+abbrev pub LevelF64Ok : Levels → ℕ → Marks → List ℕ → ℕ → ℕ → Float → Type 0
+LevelF64Ok t f m block c level r =
+    (floatNumber r ≡ levelRefusal t f m c level (length block))
+    × (floatValue r ≡ kept (levelRefusal t f m c level (length block)) zeroFloat (valueOf (levelAt t block c level)))
+    × Genuine float.Refused r

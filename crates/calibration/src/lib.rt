@@ -1,12 +1,12 @@
 // The levels of calibration-2, out of a finished block: albedo of the visible channels and temperature of the infrared ones.
 //
-// The contracts cite `specs/Tables.antt`. Each is an equation for the answer, for every input; refusals stand in the paper's
-// order, and nothing is given of a block that is not finished.
+// The contracts cite `specs/Tables.antt` (`LevelOk`, `LevelF64Ok`). Each gives the paper's number of the answer and its value, for
+// every input; refusals stand in the paper's order, and nothing is given of a block that is not finished.
 //
 // No public function has a `requires`. A buffer may be longer than its block.
 ghost use mathlib.Core.Path.{_≡_};
 ghost use Prim.Native.Nat.{_+_, _≤_, _<_};
-ghost use Rattle.calibration.specs.Tables.{Table, albedos, temperatures, levelPlace, levelAnswer, albedoAnswer, albedoF64Answer, temperatureAnswer, temperatureF64Answer};
+ghost use Rattle.calibration.specs.Tables.{Table, albedos, temperatures, levelPlace, LevelOk, LevelF64Ok};
 use blocks::block::CALIBRATION_2;
 use blocks::marks::Marks;
 use entries::entry::entry_refusal;
@@ -59,7 +59,7 @@ fn level_place(t: Levels, channel: u8, level: u16) -> usize
 // Inner. A level of a table, as sign, magnitude and places. Refused with 1, 12, 4, 10, 2, 9.
 fn level_real(t: Levels, format: u8, marks: Marks, block: &[u8], channel: u8, level: u16) -> Real
     requires { ⌜ Table t ⌝ }
-    ensures { λ r. ⌜ r ≡ levelAnswer t format marks (now (block .entry)) channel level ⌝ }
+    ensures { λ r. ⌜ LevelOk t format marks (now (block .entry)) channel level r ⌝ }
 {
     let served = refusals::outside(1, 4, channel as u64, refusals::NUMBER);
     let last = t.levels - 1;
@@ -73,28 +73,28 @@ fn level_real(t: Levels, format: u8, marks: Marks, block: &[u8], channel: u8, le
 
 // The albedo of a level 0 to 63 of VIS 1 to 4, out of a finished calibration-2 block. Refused with 1, 12, 4, 10, 2, 9.
 pub fn albedo(format: u8, marks: Marks, block: &[u8], channel: u8, level: u16) -> Real
-    ensures { λ r. ⌜ r ≡ albedoAnswer format marks (now (block .entry)) channel level ⌝ }
+    ensures { λ r. ⌜ LevelOk albedos format marks (now (block .entry)) channel level r ⌝ }
 {
     level_real(albedo_table(), format, marks, block, channel, level)
 }
 
 // The same in f64.
 pub fn albedo_f64(format: u8, marks: Marks, block: &[u8], channel: u8, level: u16) -> Float
-    ensures { λ r. ⌜ r ≡ albedoF64Answer format marks (now (block .entry)) channel level ⌝ }
+    ensures { λ r. ⌜ LevelF64Ok albedos format marks (now (block .entry)) channel level r ⌝ }
 {
     as_float(albedo(format, marks, block, channel, level))
 }
 
 // The temperature of a level 0 to 1,023 of IR 1 to 4. Refused with 1, 12, 4, 10, 2, 9.
 pub fn temperature(format: u8, marks: Marks, block: &[u8], channel: u8, level: u16) -> Real
-    ensures { λ r. ⌜ r ≡ temperatureAnswer format marks (now (block .entry)) channel level ⌝ }
+    ensures { λ r. ⌜ LevelOk temperatures format marks (now (block .entry)) channel level r ⌝ }
 {
     level_real(temperature_table(), format, marks, block, channel, level)
 }
 
 // The same in f64.
 pub fn temperature_f64(format: u8, marks: Marks, block: &[u8], channel: u8, level: u16) -> Float
-    ensures { λ r. ⌜ r ≡ temperatureF64Answer format marks (now (block .entry)) channel level ⌝ }
+    ensures { λ r. ⌜ LevelF64Ok temperatures format marks (now (block .entry)) channel level r ⌝ }
 {
     as_float(temperature(format, marks, block, channel, level))
 }

@@ -15,8 +15,6 @@ use Rattle.formats.specs.Formats.{lineBytes}
 use Rattle.scramble.specs.Sync.{fifteenOnes}
 use Rattle.scramble.specs.Wire.{plainBit}
 use Rattle.reader_bits.specs.Call.{Call, more, whole}
-use Rattle.cuts.specs.Driven as driven
-use Rattle.cuts.specs.Driven.{lineIn, NoTail}
 use Rattle.reader_bits.specs.Lines.{isTail}
 use Rattle.reader_bits.specs.Phase.{Phase, seeking, within, phaseNext, bufferNext, completes, Bench}
 use Rattle.reader_bits.specs.Loops.{stepOf, doneOf}
@@ -172,13 +170,3 @@ line-between f s p buf t s′ e = go (readAnswer f s p buf) e (keeps f s p buf)
     go (Refused m) h k = let z : _≡_ {A = ℕ} 0 1 = cc in absurd (omega arith)
     go (More u r) h k = let z : _≡_ {A = ℕ} 0 1 = cc in absurd (omega arith)
     go (Line u r) h k = let y : s′ ≡ r = cc in ap (λ (x : State). x .«in_line») y ∙ k .0
-
--- B. WHILE NO LATER CALL FINDS A TAIL, THE BUFFER IS AS IT WAS: so the line that a call handed out stands in it
-pub stands : {f : ℕ} {s s′ : State} {buf buf′ : List ℕ} → NoTail f s buf s′ buf′ → buf′ ≡ buf
-stands driven.NoTail.here = refl
-stands {f} (driven.NoTail.on {s = s} {s′ = s′} {buf = buf} {t = t} p e i d) = stands d ∙ line-stays f s p buf t s′ e i
-stands {f} (driven.NoTail.refused {s = s} {buf = buf} {n = n} p e d) = stands d ∙ refused-stays f s p buf n e
-
-pub line-stands : (f : ℕ) (s : State) (p buf : List ℕ) (t : ℕ) (s′ : State) {s″ : State} {buf″ : List ℕ}
-    → readAnswer f s p buf ≡ Line t s′ → NoTail f s′ (readLeft f s p buf) s″ buf″ → lineIn buf″ ≡ lineIn (readLeft f s p buf)
-line-stands f s p buf t s′ e d = ap lineIn (stands d)

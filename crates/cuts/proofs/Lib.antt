@@ -13,3 +13,4 @@ pub mod Advances
 pub mod Later
 pub mod Onward
 pub mod Moments
+pub mod Standing

@@ -18,7 +18,7 @@ use Rattle.wire.specs.Parts.{lineOf}
 use Rattle.reader_bits.specs.Call.{Call, more, whole, call}
 use Rattle.cuts.specs.Driven as driven
 use Rattle.cuts.specs.Driven.{lentFor, lineIn, Moment, bitsRead}
-use Rattle.reader_bits.specs.Lines.{isTail, lines}
+use Rattle.reader_bits.specs.Lines.{isTail, lines, recorded}
 use Rattle.reader_bits.specs.Phase.{Phase, seeking, within, Bench}
 use Rattle.reader_bits.specs.Loops.{stepOf, doneOf}
 use Rattle.reader.specs.Read.{callAnswer, callLeft, readAnswer, readLeft}
@@ -30,10 +30,11 @@ use Rattle.cuts.proofs.Auto as auto
 use Rattle.cuts.proofs.Auto.{Auto, seek}
 use Rattle.cuts.proofs.Calls.{outs, after}
 use Rattle.cuts.proofs.Demand.{some-window, some-bytes, room, answer-lent, buffer-lent}
+use Rattle.cuts.proofs.Keeps.{refused-stays}
 use Rattle.cuts.proofs.Onward.{OnwardBy, onward-call}
 use Rattle.cuts.proofs.Reached.{Good, LeftBy, fresh-good, left-call}
 use Rattle.cuts.proofs.Simulates as simulates
-use Rattle.cuts.proofs.Simulates.{lentTo, StandsFor, outs-found, stands-lent}
+use Rattle.cuts.proofs.Simulates.{lentTo, StandsFor, outs-found, stands-lent, seeking-quiet}
 use Rattle.cuts.proofs.Stands.{buffer-length, fresh-search, stands-next}
 
 -- ---- lists
@@ -116,6 +117,11 @@ read-below n v p ys zs e =
 left-same : (g : Phase) (n v : ℕ) → Good g n v → stateOf g n v .«unread_count» ≡ n
 left-same (seeking c w) n v h = refl
 left-same (within p r q) n v h = sym (h .3)
+
+-- unread bits complete nothing: between lines they are too few, in a line there are none
+quiet : (g : Phase) (buf : List ℕ) (n v : ℕ) → Good g n v → outsNow (g, buf) (digits n v) ≡ []
+quiet (seeking c w) buf n v h = seeking-quiet 64 isTail lineBytes some-window some-bytes c w buf n v (h .2)
+quiet (within p r q) buf n v h = rw (h .3, no-digits v)
 
 module _ (f : ℕ) (format : Format) (ok : formatOf f ≡ Is format)
     (lend : ℕ → List ℕ → List ℕ) (long : (k : ℕ) (buf : List ℕ) → 44356 ≤ length buf → 44356 ≤ length (lend k buf)) where
@@ -259,6 +265,8 @@ module _ (f : ℕ) (format : Format) (ok : formatOf f ≡ Is format)
       }
   holds m (driven.Moment.on {k = k} {s = s} {buf = buf} {bytes = bytes} {ls = ls} {t = t} {s′ = s′} p d e) = holds-on s buf bytes ls (holds m d) k p t s′ e
   holds m (driven.Moment.got {k = k} {s = s} {buf = buf} {bytes = bytes} {ls = ls} {t = t} {s′ = s′} p d e) = holds-got s buf bytes ls (holds m d) k p t s′ e
+  holds m (driven.Moment.refused {s = s} {buf = buf} {bytes = bytes} {ls = ls} {n = n} g r p d e) =
+      subst (λ (x : List ℕ). Holds s x bytes ls) (sym (refused-stays g r p buf n e)) (holds m d)
 
   bits-at : (s : State) (buf bytes : List ℕ) (ls : List (List ℕ)) (h : Holds s buf bytes ls) → bitsRead s bytes ≡ h .xs
   unfolding bitsRead
@@ -267,6 +275,10 @@ module _ (f : ℕ) (format : Format) (ok : formatOf f ≡ Is format)
       let l : length (h .xs) ≡ 8 * length bytes - s .«unread_count» =
       omega (arith, length-bits bytes, ap length (h .split), length-append (h .xs) (digits (h .left) (h .unread)), length-digits (h .left) (h .unread)) in
       ap (take (8 * length bytes - s .«unread_count»)) (h .split) ∙ take-at (h .xs) (digits (h .left) (h .unread)) (8 * length bytes - s .«unread_count») l
+
+  -- the buffer is a full-size one
+  pub full-size : (first : List ℕ) → 44356 ≤ length first → {k : ℕ} {s : State} {buf bytes : List ℕ} {ls : List (List ℕ)} → Moment f lend first k s buf bytes ls → 44356 ≤ length buf
+  full-size first m d = holds m d .long
 
   -- AT EVERY MOMENT: the lines handed out are the lines of the bits read so far
   pub at-every-moment : (first : List ℕ) → 44356 ≤ length first → {k : ℕ} {s : State} {buf bytes : List ℕ} {ls : List (List ℕ)}
@@ -277,6 +289,22 @@ module _ (f : ℕ) (format : Format) (ok : formatOf f ≡ Is format)
       h .lines-so
       ∙ auto.found-is 64 isTail informationBits lineOf some-window (zero-lt-suc 354847) (h .xs)
       ∙ ap lines (sym (bits-at s buf bytes ls h))
+
+  -- and so those of the bytes taken so far: up to seven bits that are not read yet complete no line
+  pub of-the-bytes : (first : List ℕ) → 44356 ≤ length first → {k : ℕ} {s : State} {buf bytes : List ℕ} {ls : List (List ℕ)}
+      → Moment f lend first k s buf bytes ls → ls ≡ recorded bytes
+  unfolding recorded lines
+  of-the-bytes first m {s = s} {buf = buf} {bytes = bytes} {ls = ls} d =
+      let h = holds m d in
+      let unread : List ℕ = digits (h .left) (h .unread) in
+      let none : found (runA (seek []) (h .xs)) unread ≡ [] =
+      sym (outs-found 64 isTail lineBytes some-window some-bytes unread (h .phase) buf (runA (seek []) (h .xs)) (digits-below (h .left) (h .unread)) (h .long) (h .stands))
+      ∙ quiet (h .phase) buf (h .left) (h .unread) (h .good) in
+      sym (append-nil ls)
+      ∙ ap₂ (λ (x y : List (List ℕ)). x ++ y) (h .lines-so) (sym none)
+      ∙ sym (auto.found-append 64 isTail informationBits lineOf (seek []) (h .xs) unread)
+      ∙ auto.found-is 64 isTail informationBits lineOf some-window (zero-lt-suc 354847) (h .xs ++ unread)
+      ∙ ap lines (sym (h .split))
 
   -- and a line is handed out right at its last bit: of the bits read without that one, it is no line yet
   pub at-its-last-bit : (first : List ℕ) → 44356 ≤ length first → {k : ℕ} {s : State} {buf bytes : List ℕ} {ls : List (List ℕ)}

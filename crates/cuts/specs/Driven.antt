@@ -39,14 +39,6 @@ pub data Driven (f : ℕ) (lend : ℕ → List ℕ → List ℕ) : ℕ → State
       → Driven f lend (suc k) s′ (readLeft f s p (lentFor lend k s buf)) (drop t p ∷ ps) ls
       → Driven f lend k s buf (p ∷ ps) (lineIn (readLeft f s p (lentFor lend k s buf)) ∷ ls)
 
--- calls between lines that find no tail, or are refused: from one record and buffer to another
-pub data NoTail (f : ℕ) : State → List ℕ → State → List ℕ → Type 0 where
-  here : {s : State} {buf : List ℕ} → NoTail f s buf s buf
-  on : {s s′ s″ : State} {buf buf″ : List ℕ} {t : ℕ} (p : List ℕ)
-      → readAnswer f s p buf ≡ More t s′ → s′ .«in_line» ≡ false → NoTail f s′ (readLeft f s p buf) s″ buf″ → NoTail f s buf s″ buf″
-  refused : {s s″ : State} {buf buf″ : List ℕ} {n : ℕ} (p : List ℕ)
-      → readAnswer f s p buf ≡ Refused n → NoTail f s (readLeft f s p buf) s″ buf″ → NoTail f s buf s″ buf″
-
 -- the bytes taken in a run of calls, in all
 unfoldable pub takenIn : {f : ℕ} {lend : ℕ → List ℕ → List ℕ} {k : ℕ} {s : State} {buf : List ℕ} {ps ls : List (List ℕ)} → Driven f lend k s buf ps ls → ℕ
 takenIn end = 0
@@ -54,8 +46,9 @@ takenIn (used d) = takenIn d
 takenIn (on {t = t} e d) = t + takenIn d
 takenIn (got {t = t} e d) = t + takenIn d
 
--- a moment of a run of calls from a fresh reader: the calls made, the record and the buffer after them, the bytes taken so
--- far, in a row, and the lines handed out so far. A call may be offered any bytes beyond those that it takes
+-- a moment of a run of calls from a fresh reader: the calls made but the refused ones, the record and the buffer after them, the
+-- bytes taken so far, in a row, and the lines handed out so far. A call may be offered any bytes beyond those that it takes; a
+-- refused one may be of any format, with any record
 pub data Moment (f : ℕ) (lend : ℕ → List ℕ → List ℕ) (first : List ℕ) : ℕ → State → List ℕ → List ℕ → List (List ℕ) → Type 0 where
   start : Moment f lend first 0 freshState first [] []
   on : {k : ℕ} {s : State} {buf bytes : List ℕ} {ls : List (List ℕ)} {t : ℕ} {s′ : State} (p : List ℕ)
@@ -66,6 +59,19 @@ pub data Moment (f : ℕ) (lend : ℕ → List ℕ → List ℕ) (first : List �
       → Moment f lend first k s buf bytes ls
       → readAnswer f s p (lentFor lend k s buf) ≡ Line t s′
       → Moment f lend first (suc k) s′ (readLeft f s p (lentFor lend k s buf)) (bytes ++ take t p) (ls ++ (lineIn (readLeft f s p (lentFor lend k s buf)) ∷ []))
+  refused : {k : ℕ} {s : State} {buf bytes : List ℕ} {ls : List (List ℕ)} {n : ℕ} (g : ℕ) (r : State) (p : List ℕ)
+      → Moment f lend first k s buf bytes ls
+      → readAnswer g r p buf ≡ Refused n
+      → Moment f lend first k s (readLeft g r p buf) bytes ls
+
+-- A LINE STANDS WHOLE IN THE BUFFER: right after the call that handed it out, and after each later call that was lent the same
+-- buffer and found no tail, or was refused
+unfoldable pub Standing : {f : ℕ} {lend : ℕ → List ℕ → List ℕ} {first : List ℕ} {k : ℕ} {s : State} {buf bytes : List ℕ} {ls : List (List ℕ)}
+    → Moment f lend first k s buf bytes ls → Type 0
+Standing start = ⊥
+Standing (got p m e) = Unit {0}
+Standing {lend = lend} (on {k = k} {s = s} {buf = buf} {s′ = s′} p m e) = Standing m × (lentFor lend k s buf ≡ buf) × (s′ .«in_line» ≡ false)
+Standing (refused g r p m e) = Standing m
 
 -- the bits read so far: all of the bytes taken but the unread ones
 unfoldable pub bitsRead : State → List ℕ → List ℕ

@@ -2,8 +2,9 @@
 // what it is handed; `proofs/` proves over it, citing the contract of `read` and no more:
 //
 //   Demand    demand 3: in whatever pieces a recording comes, the lines handed out are those of `recorded`, and no others
-//   Moments   at every moment of a run the lines so far are those of the bits read so far
-//   Keeps     a refused call changes nothing, and a line stands in its buffer until a later call finds the next tail
+//   Moments   at every moment of a run the lines so far are those of the bits read so far, and of the bytes taken so far
+//   Keeps     a refused call changes nothing, and one that finds no tail changes no byte of the buffer
+//   Standing  the line handed out last stands in its buffer until a later call finds the next tail
 //   Advances  a call takes no more than it was offered, and at least one byte of a piece that has any
 //   Later     bits behind a recording add lines behind its own, and change none
 //

@@ -1,26 +1,20 @@
 -- THE WAY ROUND: lines to the writer, its recording cut in any way, the reader. The lines that are handed out are the lines
--- that were written, bit for bit (`there-and-back`), and the sectors of each say what was put into them (`data-there-and-back`,
--- `pixels-there-and-back`). Assumes nothing.
+-- that were written, bit for bit. Assumes nothing.
 use mathlib.Core.List.{List, map}
 use mathlib.Core.Logic.{_↔_}
 use mathlib.Core.Path.{_≡_, sym, ap, _∙_}
-use Prim.Native.Nat.{ℕ, _^_, _≤_}
+use Prim.Native.Nat.{ℕ, _≤_}
 use lib.ListN.{length, take}
-use Rattle.bits.specs.Bits.{bitsOf, Below}
+use lib.Seq.{length-take-le}
+use Rattle.bits.specs.Bits.{bitsOf, Below, inARow}
 use Rattle.bits.proofs.Fields.{packed-inj}
-use Rattle.formats.specs.Formats.{formatOf, lineBytes, checkStart}
+use Rattle.formats.specs.Formats.{formatOf, lineBytes}
 use Rattle.formats.specs.declared.Format.{Format}
 use Rattle.formats.specs.declared.FormatAnswer.the-variants.{Is}
-use Rattle.bits.specs.Bits.{inARow}
 use Rattle.cuts.specs.Driven.{Driven, lineIn}
 use Rattle.reader_bits.specs.Lines.{recorded}
 use Rattle.reader_record.specs.Records.{freshState}
 use Rattle.cuts.proofs.Demand.{demand-3}
-use Rattle.sectors.specs.Layout.{layoutOf}
-use Rattle.sectors.specs.Sector.{answerOf, fillerOf, dataOf, pixelsOf}
-use Rattle.sector_rounds.specs.Cleared.{clearedOf}
-use Rattle.sector_writer.specs.Calls.{putDataAnswer, putDataLeft, putPixelsAnswer, putPixelsLeft}
-use Rattle.sector_rounds.proofs.Rounds.{data-framed, pixels-framed}
 use Rattle.demands.specs.RoundTrip.{PlainLine, PlainLines, recordingOf}
 use Rattle.demands.proofs.RoundTrip.{round-trip}
 
@@ -39,22 +33,4 @@ there-and-back n f e lend long buf room ls plain ps cut out =
 pub bytes-back : (buf line : List ℕ) → Below 256 (take lineBytes buf) → PlainLine line → lineBytes ≤ length buf → lineIn buf ≡ bitsOf line → take lineBytes buf ≡ line
 unfolding lineIn bitsOf
 bytes-back buf line b p room e =
-    packed-inj 8 (take lineBytes buf) line (lib.Seq.length-take-le lineBytes buf room ∙ sym (p .long)) b (p .bytes) e
-
--- ---- one sector on the way round
-
--- what stands in a buffer after the way round: the line that `put_data` or `put_pixels` left, of which sector k was written
-module _ (f k : ℕ) (line : List ℕ) where
-  -- DATA: accepted, no filler set, and the data bytes again, spare bits cleared
-  pub data-there-and-back : (bytes buf : List ℕ) → Below (2 ^ 8) bytes → putDataAnswer f (length line) k (length bytes) ≡ 0 → lineIn buf ≡ putDataLeft f line k bytes
-      → (answerOf (checkStart f) (layoutOf k) (lineIn buf) ≡ 0) × (fillerOf (layoutOf k) (lineIn buf) ≡ 0) × (dataOf (layoutOf k) (lineIn buf) ≡ clearedOf (layoutOf k) bytes)
-  data-there-and-back bytes buf small e same =
-      let w = data-framed f k line (lineIn buf) bytes small e same in
-      (w .0 .answer, w .0 .filler, w .1)
-
-  -- PIXELS: accepted, no filler set, and the pixels again, at every width
-  pub pixels-there-and-back : (lo hi : ℕ) (ps buf : List ℕ) → 1 ≤ lo → hi ≤ 12 → putPixelsAnswer lo hi f (length line) k ps ≡ 0 → lineIn buf ≡ putPixelsLeft lo hi f line k ps
-      → (answerOf (checkStart f) (layoutOf k) (lineIn buf) ≡ 0) × (fillerOf (layoutOf k) (lineIn buf) ≡ 0) × (pixelsOf (layoutOf k) (lineIn buf) ≡ take (layoutOf k .count) ps)
-  pixels-there-and-back lo hi ps buf one twelve e same =
-      let w = pixels-framed lo hi f k line (lineIn buf) ps one twelve e same in
-      (w .0 .answer, w .0 .filler, w .1)
+    packed-inj 8 (take lineBytes buf) line (length-take-le lineBytes buf room ∙ sym (p .long)) b (p .bytes) e

@@ -12,7 +12,9 @@ use Rattle.bits.proofs.Bytes.{length-bits, bits-take}
 use Rattle.formats.specs.Formats.{informationBits, lineBytes}
 use Rattle.cuts.specs.Driven.{lineIn}
 use Rattle.sectors.specs.declared.layout.Layout.{Layout}
-use Rattle.sectors.specs.Layout.{Sound, dataAt, fillerAt, coveredBits, fillerBits}
+use Rattle.sectors.specs.Layout.{layoutOf, Sound, dataAt, fillerAt, coveredBits, fillerBits}
+use Rattle.sectors.proofs.Table.{sound}
+use Rattle.sector_rounds.proofs.Others.{Alike}
 use Rattle.sectors.specs.Sector.{coveredOf, idOf, answerOf, fillerOf, dataBitsOf, dataOf, pixelsOf, joinedOf}
 
 -- ---- a stretch inside the first n bits
@@ -59,6 +61,12 @@ module _ (buf : List ℕ) (long : lineBytes ≤ length buf) where
     pub line-pixels : pixelsOf l (bitsOf buf) ≡ pixelsOf l (lineIn buf)
     unfolding pixelsOf
     line-pixels = rw line-bits
+
+  -- the same of sector n, all at once
+  pub line-alike : (n : ℕ) → 1 ≤ n → n ≤ 12 → Alike n (bitsOf buf) (lineIn buf)
+  line-alike n low high =
+      let s = sound n low high in
+      record { answer = line-answer (layoutOf n) s; filler = line-filler (layoutOf n) s; bytes = line-data (layoutOf n) s; pixels = line-pixels (layoutOf n) s }
 
 -- each joined pixel: four times the upper part plus the lower part
 pub joined-at : (xs ys : List ℕ) (i : ℕ) → length xs ≡ length ys → i < length xs → getD (joinedOf xs ys) i 0 ≡ 4 * getD xs i 0 + getD ys i 0

@@ -6,5 +6,7 @@ pub mod InLine
 pub mod OneLine
 pub mod Opened
 pub mod Demands
+pub mod Demand2
 pub mod Refusals
 pub mod Orders
+pub mod Demand3

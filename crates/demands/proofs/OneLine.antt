@@ -1,55 +1,69 @@
--- A LINE IS A LINE. From the call that hands a line out until a later call finds the next tail, what is joined from the
--- buffer is four times the upper part plus the lower part of that one line, pixel by pixel. Assumes nothing.
+-- A LINE IS A LINE. At every moment of a run of calls at which a line stands whole in the buffer, each pixel joined from the buffer
+-- is four times the upper part plus the lower part of that one line, the last that the plain definition finds in the bytes
+-- taken (`a-line-is-a-line`). Assumes nothing.
 use mathlib.Core.List.{List, _++_}
-use mathlib.Core.Path.{_≡_, sym, ap, ap₂, _∙_}
-use Prim.Native.Nat.{ℕ, _+_, _*_, _≤_, _<_}
+use mathlib.Core.Path.{_≡_, refl, sym, ap, ap₂, _∙_}
+use Prim.Native.Nat.{ℕ, _+_, _≤_, _<_}
 use native.Mathlib.Omega.{arith}
-use lib.ListN.{length, getD, drop}
+use lib.ListN.{length, getD, drop, List·getD-append}
 use Rattle.bits.proofs.Fields.{length-fields}
-use Rattle.cuts.specs.Driven.{lineIn, NoTail}
-use Rattle.reader.specs.Read.{readAnswer, readLeft}
+use Rattle.formats.specs.Formats.{formatOf}
+use Rattle.formats.specs.declared.Format.{Format}
+use Rattle.formats.specs.declared.FormatAnswer.the-variants.{Is}
+use Rattle.reader_bits.specs.Lines.{recorded}
 use Rattle.reader_record.specs.declared.State.{State}
-use Rattle.reader.specs.declared.Answer.the-variants.{Line}
-use Rattle.cuts.proofs.Keeps.{line-stands}
+use Rattle.cuts.specs.Driven.{lineIn, Moment, Standing}
+use Rattle.cuts.proofs.Moments.{of-the-bytes}
+use Rattle.cuts.proofs.Standing.{line-stands}
+use Rattle.sectors.specs.declared.layout.Layout.{Layout}
+use Rattle.sectors.specs.Layout.{sectors, layoutOf}
 use Rattle.sectors.specs.Asked.{lineRefusal}
-use Rattle.channels.specs.Join.{upperOf, lowerOf, joinedAnswer, joinedLeft}
-use Rattle.sectors.specs.Sector.{pixelsOf, joinedOf}
-use Rattle.refusals.proofs.Words.{kept-none, none-first}
+use Rattle.sectors.specs.Sector.{pixelsOf, joinedPixel, joinedOf}
 use Rattle.sectors.proofs.Admitted.{admitted}
-use Rattle.channels.proofs.Joined.{as-many}
+use Rattle.sectors.proofs.Rows.{Each, among}
 use Rattle.sectors.proofs.Table.{sound}
+use Rattle.channels.specs.Join.{upperOf, lowerOf, joinedAnswer, joinedLeft}
+use Rattle.channels.proofs.Joined.{as-many, length-joined}
+use Rattle.refusals.proofs.Words.{kept-none, none-first}
+use Rattle.demands.specs.OneLine.{OneLine}
 use Rattle.demands.proofs.InLine.{line-pixels, joined-at}
 
--- the joined pixels of one line
-pub joinedLine : ℕ → List ℕ → List ℕ
-joinedLine channel line = joinedOf (pixelsOf (upperOf channel) line) (pixelsOf (lowerOf channel) line)
+pixels-many : (l : Layout) (b : List ℕ) → length (pixelsOf l b) ≡ l .count
+unfolding pixelsOf
+pixels-many l b = length-fields (l .width) (l .count) _
 
--- each is four times the upper part plus the lower part of that line
-pub joined-line : (channel : ℕ) (line : List ℕ) (i : ℕ) → 1 ≤ channel → channel ≤ 3 → i < upperOf channel .count
-    → getD (joinedLine channel line) i 0 ≡ 4 * getD (pixelsOf (upperOf channel) line) i 0 + getD (pixelsOf (lowerOf channel) line) i 0
-unfolding joinedLine pixelsOf
-joined-line channel line i low high h =
-    joined-at (pixelsOf (upperOf channel) line) (pixelsOf (lowerOf channel) line) i
-    (length-fields _ (upperOf channel .count) _ ∙ sym (as-many channel low high) ∙ sym (length-fields _ (lowerOf channel .count) _))
-    (rw length-fields h)
+upper-count : (channel : ℕ) → 1 ≤ channel → channel ≤ 3 → upperOf channel .count ≡ 2291
+unfolding Each layoutOf sectors
+upper-count channel low high = among (λ n. upperOf n .count ≡ 2291) 1 3 channel (refl, (refl, (refl, tt))) low (omega arith)
 
--- a call that joins, on any buffer: the pixels are those of the line in its first 44,356 bytes
-pub joined-buffer : (f channel : ℕ) (buf out : List ℕ) → joinedAnswer f buf channel (length out) ≡ 0
-    → joinedLeft f buf channel out ≡ joinedLine channel (lineIn buf) ++ drop (upperOf channel .count) out
-unfolding joinedLeft joinedLine joinedAnswer
-joined-buffer f channel buf out e =
+-- a call that joins, on any buffer: each pixel is joined of the line in its first 44,356 bytes
+joined-pixel : (f channel : ℕ) (buf out : List ℕ) → joinedAnswer f buf channel (length out) ≡ 0 → (i : ℕ) → i < 2291
+    → getD (joinedLeft f buf channel out) i 0 ≡ joinedPixel (getD (pixelsOf (upperOf channel) (lineIn buf)) i 0) (getD (pixelsOf (lowerOf channel) (lineIn buf)) i 0)
+unfolding joinedLeft joinedAnswer
+joined-pixel f channel buf out e i h =
     let a = admitted f 1 3 channel (length buf) (none-first (lineRefusal f 1 3 channel (length buf)) _ e) in
-    let low = a .low in
-    let high = a .high in
-    let up = line-pixels buf (a .long) (upperOf channel) (sound (channel + 1) (omega arith) (omega arith)) in
-    let down = line-pixels buf (a .long) (lowerOf channel) (sound (channel + 8) (omega arith) (omega arith)) in
-    kept-none (joinedAnswer f buf channel (length out)) out _ e
-    ∙ ap₂ (λ (x y : List ℕ). joinedOf x y ++ drop (upperOf channel .count) out) up down
+    let up = line-pixels buf (a .long) (upperOf channel) (sound (channel + 1) (omega (arith, a .low)) (omega (arith, a .high))) in
+    let down = line-pixels buf (a .long) (lowerOf channel) (sound (channel + 8) (omega (arith, a .low)) (omega (arith, a .high))) in
+    let xs : List ℕ = pixelsOf (upperOf channel) (lineIn buf) in
+    let ys : List ℕ = pixelsOf (lowerOf channel) (lineIn buf) in
+    let lx : length xs ≡ 2291 = pixels-many (upperOf channel) (lineIn buf) ∙ upper-count channel (a .low) (a .high) in
+    let ly : length ys ≡ 2291 = pixels-many (lowerOf channel) (lineIn buf) ∙ as-many channel (a .low) (a .high) ∙ upper-count channel (a .low) (a .high) in
+    let same : length xs ≡ length ys = lx ∙ sym ly in
+    ap (λ (x : List ℕ). getD x i 0)
+    (kept-none (joinedAnswer f buf channel (length out)) out _ e ∙ ap₂ (λ (x y : List ℕ). joinedOf x y ++ drop (upperOf channel .count) out) up down)
+    ∙ List·getD-append (joinedOf xs ys) (drop (upperOf channel .count) out) 0 i (omega (arith, length-joined xs ys same, lx))
+    ∙ joined-at xs ys i same (omega (arith, lx))
 
--- THE CLAIM: `p` completed a line in the buffer; no later call has found a tail; the buffer is then joined
-pub one-line : (f : ℕ) (s : State) (p buf : List ℕ) (t : ℕ) (s′ : State) {s″ : State} {buf″ : List ℕ} (channel : ℕ) (out : List ℕ)
-    → readAnswer f s p buf ≡ Line t s′ → NoTail f s′ (readLeft f s p buf) s″ buf″ → joinedAnswer f buf″ channel (length out) ≡ 0
-    → joinedLeft f buf″ channel out ≡ joinedLine channel (lineIn (readLeft f s p buf)) ++ drop (upperOf channel .count) out
-one-line f s p buf t s′ {buf″ = buf″} channel out done stays e =
-    joined-buffer f channel buf″ out e
-    ∙ ap (λ (x : List ℕ). joinedLine channel x ++ drop (upperOf channel .count) out) (line-stands f s p buf t s′ done stays)
+-- THE CLAIM: a fresh reader on one format and full-size buffers, at any moment at which a line stands
+pub a-line-is-a-line : (f : ℕ) (format : Format) → formatOf f ≡ Is format
+    → (lend : ℕ → List ℕ → List ℕ) → ((k : ℕ) (buf : List ℕ) → 44356 ≤ length buf → 44356 ≤ length (lend k buf)) → (first : List ℕ) → 44356 ≤ length first
+    → {k : ℕ} {s : State} {buf bytes : List ℕ} {ls : List (List ℕ)} (m : Moment f lend first k s buf bytes ls) → Standing m → OneLine f (recorded bytes) buf
+a-line-is-a-line f format ok lend long first room {buf = buf} m whole =
+    let l = line-stands m whole in
+    record {
+      before = l .before;
+      line = lineIn buf;
+      last = sym (of-the-bytes f format ok lend long first room m) ∙ l .all;
+      stands = refl;
+      joined = λ channel out e i h. joined-pixel f channel buf out e i h;
+    }

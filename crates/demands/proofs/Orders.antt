@@ -1,28 +1,27 @@
 -- THE ORDERS, as `specs/Orders` lists them. Assumes nothing.
 use mathlib.Core.Path.{_≡_, refl, sym, ap, ap₂, _∙_}
-use mathlib.Core.Bool.{Bool, true, false, cond, _||_}
+use mathlib.Core.Bool.{Bool, true, false, _||_}
 use mathlib.Core.List.{List, [], _∷_, _++_}
-use Prim.Native.Nat.{ℕ, zero, suc, _+_, _-_, _≤_}
+use Prim.Native.Nat.{ℕ, _+_, _-_, _≤_}
 use native.Mathlib.Omega.{arith}
-use borrow.Author.Tests.{le-ltb}
-use lib.Dec.{leb, ltb, lit≤}
-use lib.ListN.{length, drop, length-drop}
+use lib.Dec.{leb, lit≤}
+use lib.ListN.{length, drop}
 use Rattle.refusals.specs.Refusals.{first, when, shortOf, outside, outsideOf, answered}
 use Rattle.refusals.specs.Order.{Test, firstOf}
-use Rattle.refusals.proofs.Words.{first-none, none-first, none-second, when-false}
+use Rattle.refusals.proofs.Words.{first-none, none-first, none-second}
 use Rattle.refusals.proofs.Chains.{first-assoc, first-zero, first-as, first-again, chain-then}
-use Rattle.refusals.proofs.Given.{given-number}
 use Rattle.formats.specs.Formats.{formatRefusal, checkStart, lineBytes}
 use Rattle.formats.proofs.Which.{refused-when}
 use Rattle.bits.specs.Bits.{bitsOf, inBase}
 use Rattle.bits.proofs.Stretches.{stretch-length}
+use Rattle.scramble.specs.Step.{stepRefusal}
 use Rattle.sync.specs.Put.{putSyncRefusal}
 use Rattle.reader.specs.Read.{readRefusal}
 use Rattle.writer.specs.Wire.{writeLineRefusal}
 use Rattle.sectors.specs.Layout.{layoutOf}
 use Rattle.sectors.specs.Sector.{answerOf}
 use Rattle.sectors.specs.Asked.{askedOf, lineRefusal}
-use Rattle.sectors.specs.Calls.{acceptedAnswer, answersRefusal}
+use Rattle.sectors.specs.Calls.{acceptedAnswer, answersRefusal, fillerRefusal}
 use Rattle.pixels.specs.Calls.{valuesRefusal, dataAnswer, pixelsAnswer}
 use Rattle.channels.specs.Join.{joinedAnswer}
 use Rattle.visible.specs.Strip.{stripRefusal}
@@ -33,24 +32,20 @@ use Rattle.numbers.specs.Decimals.{someOver9, digitsIn, decimalOf, readBcdRefus
 use Rattle.numbers.specs.Reals.{noReal, formRefusal, readRealRefusal}
 use Rattle.numbers.specs.declared.Bcd.the-variants as bcd
 use Rattle.number_writer.specs.Written.{putRealRefusal}
-use Rattle.stamps.specs.Decimals.{bcdNumber, partRefusal}
+use Rattle.stamps.specs.Decimals.{partNumber, partRefusal}
 use Rattle.stamps.proofs.Digits.{bcd-digits}
 use Rattle.document.specs.Place.{docByte, docFrom, docPart, docRefusal}
-use Rattle.document.specs.Segments.{segmentRefusal, subCommutationRefusal, subCommutationAnswer}
-use Rattle.document.specs.declared.segments.SubCommutation.the-variants as sub
+use Rattle.document.specs.Segments.{segmentRefusal, subCommutationRefusal}
 use Rattle.document.proofs.Known.{doc-long}
 use Rattle.document.proofs.Numbers.{doc-order}
 use Rattle.stamps.specs.Dates.{dayRefusal, timeRefusal, dateInRefusal}
 use Rattle.document_stamps.specs.Lines.{countsRefusal, lineNumbersRefusal}
 use Rattle.document_stamps.specs.Dates.{dateRefusal}
-use Rattle.document_fields.specs.Fields.{noPlace, fieldRefusal}
-use Rattle.document_fields.proofs.Served.{served}
-use Rattle.blocks.specs.declared.block.Block.{Block}
+use Rattle.document_fields.specs.Fields.{noPlace, fieldRefusal, integerFieldRefusal, bcdFieldRefusal, realFieldRefusal}
 use Rattle.blocks.specs.declared.marks.Marks.{Marks}
 use Rattle.blocks.specs.Blocks.{blockOf, blockRefusal}
-use Rattle.blocks.specs.Marking.{marked, withMark, marksRefusal, unfinishedRefusal}
-use Rattle.segments.specs.Assembly.{placed, copyRefusal, placeAnswer, lentRefusal, carriedAnswer, addedBy, addSegmentAnswer, addedNumber}
-use Rattle.segments.specs.declared.Added.the-variants as added
+use Rattle.blocks.specs.Marking.{marksRefusal, unfinishedRefusal}
+use Rattle.segments.specs.Assembly.{copyRefusal, lentRefusal, carriedRefusal, addSegmentRefusal}
 use Rattle.entries.specs.Entries.{entryRefusal, gridRefusal}
 use Rattle.calibration.specs.Tables.{levelRefusal}
 use Rattle.demands.specs.Orders.{Orders, badPart, someOver, docTests, fieldTests, countTests, dateTests, segmentTest}
@@ -69,12 +64,12 @@ over-when limit (p ∷ ps) = go (leb limit p) (over-when limit ps)
 -- a BCD part whose bytes are there
 part-when : (bytes : List ℕ) (at n low high : ℕ) → 1 ≤ n → n ≤ 6 → at + n ≤ length bytes → partRefusal bytes at n low high ≡ when (badPart bytes at n low high) 7
 unfolding partRefusal badPart decimalOf outsideOf
-part-when bytes at n low high some few h = ap (bcdNumber low high) (bcd-digits bytes at n some few h) ∙ go (someOver9 ds)
+part-when bytes at n low high some few h = ap (partNumber low high) (bcd-digits bytes at n some few h) ∙ go (someOver9 ds)
   where
     ds : List ℕ
     ds = digitsIn n (drop at bytes)
 
-    go : (t : Bool) → bcdNumber low high (answered bcd.Refused (when t 7) (bcd.Is (inBase 10 ds))) ≡ when (t || outside low high (inBase 10 ds)) 7
+    go : (t : Bool) → partNumber low high (answered bcd.Refused (when t 7) (bcd.Is (inBase 10 ds))) ≡ when (t || outside low high (inBase 10 ds)) 7
     go true = unfold when answered in refl
     go false = unfold when answered in refl
 
@@ -117,29 +112,7 @@ field-when t f line p n =
     ∙ first-again (formatRefusal f) (when t 10) (when (noPlace p n) 2) _
     ∙ simp (refused-when, first-zero) refl
 
--- the bytes of a field that is not refused are there
-there : (form f : ℕ) (line : List ℕ) (p n : ℕ) → fieldRefusal form f line p n ≡ 0 → (form ≡ 0) × (shortOf (length (docFrom line p)) n 2 ≡ 0)
-unfolding shortOf docFrom
-there form f line p n e =
-    let s = served form f line p n e in
-    let long : lineBytes ≤ length line = s .long in
-    let high : p + n ≤ 2294 = s .high in
-    let low : 1 ≤ p = s .low in
-    let room : n ≤ length (drop (p - 1) line) = rw length-drop (omega arith) in
-    (s .formed, when-false (ltb (length (drop (p - 1) line)) n) 2 (le-ltb (length (drop (p - 1) line)) n room))
-
 -- ---- a segment added
-
-segment-number : (l k : ℕ) (s repeat : ℕ) (b : Block) (m : Marks) (line block : List ℕ)
-    → addedNumber (addedBy (answered sub.Refused l (answered sub.Refused k (sub.Is s repeat))) b m line block) ≡ first l (first k (copyRefusal b m line s block))
-unfolding answered first
-segment-number (suc l) k s repeat b m line block = refl
-segment-number zero (suc k) s repeat b m line block = refl
-segment-number zero zero s repeat b m line block = unfold placeAnswer in given-number added.Refused addedNumber (copyRefusal b m line s block) _ (λ j. refl) (go (marked m s))
-  where
-    go : (t : Bool) → addedNumber (cond t (placed m s false) (placed (withMark m s) s true)) ≡ 0
-    go true = refl
-    go false = refl
 
 -- behind the lengths the format and the line's length are not in doubt
 lent-doc : (f : ℕ) (m : Marks) (line : List ℕ) (n given : ℕ) → lentRefusal f m n (length line) given ≡ 0 → docRefusal f line ≡ answerOf (checkStart f) (layoutOf 1) (bitsOf line)
@@ -152,22 +125,24 @@ lent-doc f m line n given e =
     ∙ first-none (shortOf (length line) lineBytes 2) _ (none-first (shortOf (length line) lineBytes 2) _ lengths)
 
 added-when : (f : ℕ) (m : Marks) (line : List ℕ) (n : ℕ) (block : List ℕ)
-    → addedNumber (addSegmentAnswer f m line n block)
+    → addSegmentRefusal f m line n block
     ≡ first (lentRefusal f m n (length line) (length block))
     (first (first (answerOf (checkStart f) (layoutOf 1) (bitsOf line)) (segmentRefusal (docByte line 193) (docByte line 194) (docByte line 195) (docByte line 196)))
     (copyRefusal (blockOf n) m line (docByte line 194) block))
-unfolding addSegmentAnswer carriedAnswer subCommutationAnswer subCommutationRefusal
+unfolding addSegmentRefusal carriedRefusal subCommutationRefusal
 added-when f m line n block =
-    segment-number (lentRefusal f m n (length line) (length block)) _ (docByte line 194) (docByte line 196) (blockOf n) m line block
-    ∙ first-as (lentRefusal f m n (length line) (length block)) _ _
-    (λ z. ap (λ (k : ℕ). first (first k (segmentRefusal (docByte line 193) (docByte line 194) (docByte line 195) (docByte line 196))) (copyRefusal (blockOf n) m line (docByte line 194) block)) (lent-doc f m line n (length block) z))
+    let lent : ℕ = lentRefusal f m n (length line) (length block) in
+    let segment : ℕ = segmentRefusal (docByte line 193) (docByte line 194) (docByte line 195) (docByte line 196) in
+    let copy : ℕ = copyRefusal (blockOf n) m line (docByte line 194) block in
+    first-assoc lent (first (docRefusal f line) segment) copy ∙ first-as lent _ _ (λ z. ap (λ (k : ℕ). first (first k segment) copy) (lent-doc f m line n (length block) z))
 
 -- ---- the list
 
 pub orders : Orders
-unfolding firstOf shortOf outsideOf putSyncRefusal readRefusal writeLineRefusal acceptedAnswer lineRefusal askedOf answerOf answersRefusal valuesRefusal dataAnswer pixelsAnswer joinedAnswer stripRefusal inputShort putDataAnswer readIntegerRefusal readBcdRefusal readRealRefusal formRefusal putRealRefusal putPixelsAnswer lineNumbersRefusal dateRefusal docPart subCommutationRefusal segmentRefusal lentRefusal marksRefusal blockRefusal unfinishedRefusal entryRefusal gridRefusal levelRefusal copyRefusal
+unfolding firstOf shortOf outsideOf stepRefusal putSyncRefusal fillerRefusal integerFieldRefusal bcdFieldRefusal realFieldRefusal readRefusal writeLineRefusal acceptedAnswer lineRefusal askedOf answerOf answersRefusal valuesRefusal dataAnswer pixelsAnswer joinedAnswer stripRefusal inputShort putDataAnswer readIntegerRefusal readBcdRefusal readRealRefusal formRefusal putRealRefusal putPixelsAnswer lineNumbersRefusal dateRefusal docPart subCommutationRefusal segmentRefusal lentRefusal marksRefusal blockRefusal unfinishedRefusal entryRefusal gridRefusal levelRefusal copyRefusal
 orders = record {
   format-of = λ f. record { by-table = refl; given = simp (refused-when, first-zero) refl };
+  step = λ register. record { by-table = refl; given = sym (first-zero _) };
   put-sync = λ f given. record { by-table = refl; given = simp (refused-when, first-zero) refl };
   read = λ f s given. record { by-table = refl; given = simp (refused-when, first-zero) refl };
   write-line = λ f long given. record { by-table = refl; given = simp (refused-when, first-zero) refl };
@@ -188,30 +163,13 @@ orders = record {
   line-numbers = λ f line. record { by-table = refl; given = behind-doc f line (countsRefusal line) (countTests line) (counts-when line) };
   date = λ f line. record { by-table = refl; given = behind-doc f line (dateInRefusal (docPart line 20 8)) (dateTests (docPart line 20 8)) (λ h. dates-when (docPart line 20 8) (stretch-length line 19 8 (omega arith))) };
   sub-commutation = λ f line. record { by-table = refl; given = behind-doc f line _ (segmentTest line ∷ []) (λ h. sym (first-zero _)) };
-  integer-field = λ f line p n.
-      record {
-        by-table = refl;
-        given =
-            first-as (fieldRefusal (when (outside 1 4 n) 10) f line p n) _ 0 (λ z. let t = there (when (outside 1 4 n) 10) f line p n z in first-none (when (outside 1 4 n) 10) _ (t .0) ∙ t .1)
-            ∙ first-zero _
-            ∙ field-when (outside 1 4 n) f line p n;
-      };
+  integer-field = λ f line p n. record { by-table = refl; given = field-when (outside 1 4 n) f line p n };
   bcd-field = λ f line p n.
       record {
         by-table = refl;
-        given =
-            first-as (fieldRefusal (when (outside 1 6 n) 10) f line p n) _ (when (someOver9 (digitsIn n (docFrom line p))) 7)
-            (λ z. let t = there (when (outside 1 6 n) 10) f line p n z in first-none (when (outside 1 6 n) 10) _ (t .0) ∙ first-none (when (ltb (length (docFrom line p)) n) 2) _ (t .1))
-            ∙ chain-then _ _ (fieldTests (outside 1 6 n) f line p n) ((7, someOver9 (digitsIn n (docFrom line p))) ∷ []) (field-when (outside 1 6 n) f line p n) (sym (first-zero _));
+        given = chain-then _ _ (fieldTests (outside 1 6 n) f line p n) ((7, someOver9 (digitsIn n (docFrom line p))) ∷ []) (field-when (outside 1 6 n) f line p n) (sym (first-zero _));
       };
-  real-field = λ f line p n m.
-      record {
-        by-table = refl;
-        given =
-            first-as (fieldRefusal (when (noReal n m) 10) f line p n) _ 0 (λ z. let t = there (when (noReal n m) 10) f line p n z in first-none (when (noReal n m) 10) _ (t .0) ∙ t .1)
-            ∙ first-zero _
-            ∙ field-when (noReal n m) f line p n;
-      };
+  real-field = λ f line p n m. record { by-table = refl; given = field-when (noReal n m) f line p n };
   add-segment = λ f m line n block. record { by-table = refl; given = added-when f m line n block ∙ simp (refused-when, first-assoc, first-zero) refl };
   mapping-of = λ f m i j given. record { by-table = refl; given = simp (refused-when, first-assoc, first-zero) refl };
   level = λ t f m c level given. record { by-table = refl; given = simp (refused-when, first-assoc, first-zero) refl };

@@ -1,36 +1,64 @@
--- THE REFUSALS, as `specs/Refusals` lists them: an answer and a lent slice go by one chain of refusals. Assumes nothing.
-use mathlib.Core.Path.{_≡_}
+-- THE REFUSALS, as `specs/Refusals` lists them: an answer has the number of one chain of refusals, and what is lent goes by the same
+-- chain. Assumes nothing.
+use mathlib.Core.List.{List}
+use mathlib.Core.Path.{_≡_, refl, sym, _∙_}
 use Prim.Native.Nat.{ℕ}
-use native.Mathlib.Omega.{arith}
+use Rattle.bits.specs.Bits.{bitsOf, Below}
+use Rattle.refusals.specs.Refusals.{kept}
 use Rattle.refusals.proofs.Words.{kept-some}
-use Rattle.refusals.proofs.Given.{answered-kept}
-use Rattle.sync.specs.Put.{putSyncAnswer, putSyncLeft}
-use Rattle.sync.specs.declared.SyncPut.the-variants as sync
-use Rattle.cuts.proofs.Keeps.{refused-stays}
+use Rattle.scramble.specs.Step.{registerLeft}
+use Rattle.sync.specs.Put.{putSyncLeft}
+use Rattle.reader.specs.Read.{readLeft}
 use Rattle.pixels.specs.Calls.{dataLeft, pixelsLeft}
 use Rattle.channels.specs.Join.{joinedLeft}
-use Rattle.visible.specs.Strip.{stripAnswer, stripLeft}
-use Rattle.visible.specs.declared.strip.Stripped.the-variants as strip
+use Rattle.visible.specs.Strip.{stripLeft}
 use Rattle.sector_writer.specs.Calls.{putDataLeft, putPixelsLeft}
-use Rattle.writer.specs.Wire.{writeLineAnswer, writeLineLeft}
-use Rattle.writer.specs.declared.Written.the-variants as written
-use Rattle.number_writer.specs.Written.{putRealAnswer, putRealLeft}
-use Rattle.number_writer.specs.declared.Put.the-variants as put
+use Rattle.writer.specs.Wire.{writeLineLeft}
+use Rattle.number_writer.specs.Written.{putRealLeft}
+use Rattle.segments.specs.Assembly.{addedNumber, marksAfter}
+use Rattle.segments.specs.declared.Added.{Added}
+use Rattle.segments.specs.declared.Added.the-variants.{Is, Refused}
+use Rattle.segments.proofs.Settled.{add-segment-is}
+use Rattle.blocks.specs.declared.marks.Marks.{Marks}
 use Rattle.assemblies.proofs.Skips.{block-refused}
-use Rattle.demands.specs.Refusals.{Refusals}
+use Rattle.demands.specs.Contracts.{AddSegment}
+use Rattle.demands.specs.Refusals.{Refuses, Refusals}
+use Rattle.demands.proofs.Unique.{unique-bytes}
+
+-- what goes by a chain of refusals stays where the answer's number, which is that of the chain, is not 0
+stays : {B : Type 0} (n k : ℕ) (was becomes x : B) → n ≡ k → x ≡ kept k was becomes → Refuses n → x ≡ was
+stays n k was becomes x e left refused = left ∙ kept-some k was becomes (λ z. refused (e ∙ z))
+
+-- the bytes stay where the bits do
+stays-bytes : (n k : ℕ) (becomes was x : List ℕ) → Below 256 was → Below 256 x → n ≡ k → bitsOf x ≡ kept k (bitsOf was) becomes → Refuses n → x ≡ was
+stays-bytes n k becomes was x hw hx e left refused = unique-bytes (bitsOf was) x was hx hw (stays n k (bitsOf was) becomes (bitsOf x) e left refused) refl
+
+-- an assembly goes on with the block and the marks that it had
+assembly-stays : (f : ℕ) (m : Marks) (line : List ℕ) (number : ℕ) (block : List ℕ) (r : Added) (x : List ℕ)
+    → AddSegment f m line number block r x → Refuses (addedNumber r) → (x ≡ block) × (marksAfter m r ≡ m)
+assembly-stays f m line number block (Is p) x c refused = absurd (refused refl)
+assembly-stays f m line number block (Refused k) x c refused =
+    (c .1 ∙ block-refused f m line number block k (sym (add-segment-is f m line number block (Refused k) (c .0))), refl)
 
 pub refusals : Refusals
-unfolding putSyncAnswer putSyncLeft dataLeft pixelsLeft joinedLeft stripAnswer stripLeft putDataLeft putPixelsLeft writeLineAnswer writeLineLeft putRealAnswer putRealLeft
+unfolding registerLeft putSyncLeft readLeft dataLeft pixelsLeft joinedLeft stripLeft putDataLeft putPixelsLeft writeLineLeft putRealLeft
 refusals = record {
-  put-sync = λ f out n e. answered-kept sync.Refused _ _ n out _ (λ h. let z : _≡_ {A = ℕ} 0 1 = cc in let w : ⊥ = omega arith in w) e;
-  read = refused-stays;
-  data-of = λ f line sector out r. kept-some _ out _ r;
-  pixels = λ lo hi f line sector out r. kept-some _ out _ r;
-  joined = λ f line channel out r. kept-some _ out _ r;
-  strip = λ f line out n e. answered-kept strip.Refused _ _ n out _ (λ h. let z : _≡_ {A = ℕ} 0 1 = cc in let w : ⊥ = omega arith in w) e;
-  put-data = λ f line sector bytes r. kept-some _ _ _ r;
-  put-pixels = λ lo hi f line sector ps r. kept-some _ _ _ r;
-  write-line = λ f line out n e. answered-kept written.Refused _ _ n out _ (λ h. let z : _≡_ {A = ℕ} 0 1 = cc in let w : ⊥ = omega arith in w) e;
-  put-real = λ negative magnitude n m out k e. answered-kept put.Refused _ _ k out _ (λ h. let z : _≡_ {A = ℕ} 0 1 = cc in let w : ⊥ = omega arith in w) e;
-  add-segment = block-refused;
+  stepped = λ register r c h. stays _ _ register _ (r .next .bits) (c .0 .0) (c .1) h;
+  step = λ register r x c h. stays _ _ register _ x (c .0 .0) (c .1) h;
+  put-sync = λ f out r x c h. stays _ _ out _ x (c .0 .0) (c .1) h;
+  read = λ f s piece line r x c h. record {
+    taken = stays _ _ 0 _ _ (c .0 .number) (c .0 .taken) h;
+    complete = stays _ _ _ _ _ (c .0 .number) (c .0 .complete) h;
+    state = stays _ _ s _ _ (c .0 .number) (c .0 .state) h;
+    buffer = stays _ _ line _ x (c .0 .number) (c .1) h;
+  };
+  write-line = λ f line out r x c h. stays _ _ out _ x (c .0 .0) (c .1) h;
+  data-of = λ f line sector out r x c h. stays _ _ out _ x (c .0) (c .1) h;
+  pixels = λ lo hi f line sector out r x c h. stays _ _ out _ x (c .0) (c .1) h;
+  joined = λ f line channel out r x c h. stays _ _ out _ x (c .0) (c .1) h;
+  strip = λ f line out r x c h. stays _ _ out _ x (c .0 .0) (c .1) h;
+  put-data = λ f line sector bytes r x hw hx c h. stays-bytes _ _ _ line x hw hx (c .0) (c .1) h;
+  put-pixels = λ lo hi f line sector ps r x hw hx c h. stays-bytes _ _ _ line x hw hx (c .0) (c .1) h;
+  put-real = λ negative magnitude n m out r x c h. stays _ _ out _ x (c .0 .0) (c .1) h;
+  add-segment = assembly-stays;
 }

@@ -6,11 +6,13 @@ use mathlib.Core.Bool.{Bool, false, not, _&&_, _||_}
 use mathlib.Core.List.{List, [], _∷_, _++_}
 use lib.Dec.{eqb, leb, ltb}
 use lib.ListN.{length, take, drop}
-use Rattle.refusals.specs.Refusals.{first, outside, outsideOf}
+use Rattle.refusals.specs.Refusals.{outside}
 use Rattle.refusals.specs.Order.{Test, InOrder}
 use Rattle.formats.specs.Formats.{unknown, formatRefusal, namedBy, checkStart, lineBytes}
 use Rattle.bits.specs.Bits.{bitsOf, stretch, same, inBase}
 use Rattle.crc.specs.Remainder.{remainderOf}
+use Rattle.scramble.specs.Sync.{fifteenOnes}
+use Rattle.scramble.specs.Step.{stepRefusal}
 use Rattle.sync.specs.Put.{putSyncRefusal}
 use Rattle.reader_record.specs.Records.{possibleOf}
 use Rattle.reader_record.specs.declared.State.{State}
@@ -19,25 +21,24 @@ use Rattle.writer.specs.Wire.{writeLineRefusal}
 use Rattle.sectors.specs.declared.layout.Layout.{Layout}
 use Rattle.sectors.specs.Layout.{layoutOf, bytesOf}
 use Rattle.sectors.specs.Sector.{coveredOf, idOf}
-use Rattle.sectors.specs.Asked.{lineRefusal}
-use Rattle.sectors.specs.Calls.{acceptedAnswer, answersRefusal}
+use Rattle.sectors.specs.Calls.{acceptedAnswer, answersRefusal, fillerRefusal}
 use Rattle.pixels.specs.Calls.{dataAnswer, pixelsAnswer}
 use Rattle.channels.specs.Join.{upperOf, lowerOf, joinedAnswer}
 use Rattle.visible.specs.Strip.{stripBytes, stripRefusal}
 use Rattle.sector_writer.specs.Calls.{putDataAnswer, putPixelsAnswer}
 use Rattle.numbers.specs.Integers.{readIntegerRefusal}
 use Rattle.numbers.specs.Decimals.{someOver9, digitsIn, readBcdRefusal}
-use Rattle.numbers.specs.Reals.{noReal, magnitudeBits, formRefusal, readRealRefusal}
+use Rattle.numbers.specs.Reals.{noReal, magnitudeBits, readRealRefusal}
 use Rattle.number_writer.specs.Written.{putRealRefusal}
 use Rattle.document.specs.Place.{docByte, docFrom, docPart, docRefusal}
 use Rattle.document.specs.Segments.{subCommutationRefusal}
 use Rattle.document_stamps.specs.Lines.{lineNumbersRefusal}
 use Rattle.document_stamps.specs.Dates.{dateRefusal}
-use Rattle.document_fields.specs.Fields.{noPlace, fieldRefusal}
+use Rattle.document_fields.specs.Fields.{noPlace, integerFieldRefusal, bcdFieldRefusal, realFieldRefusal}
 use Rattle.blocks.specs.declared.marks.Marks.{Marks}
 use Rattle.blocks.specs.Blocks.{blockOf, segmentBytes, mapping, orbit, calibration2}
 use Rattle.blocks.specs.Marking.{marked, allMarks}
-use Rattle.segments.specs.Assembly.{segmentOf, addSegmentAnswer, addedNumber}
+use Rattle.segments.specs.Assembly.{segmentOf, addSegmentRefusal}
 use Rattle.entries.specs.Entries.{mappingRefusal, elementsRefusal}
 use Rattle.calibration.specs.declared.Levels.{Levels}
 use Rattle.calibration.specs.Tables.{levelRefusal}
@@ -107,16 +108,6 @@ unfoldable pub someOver : ℕ → List ℕ → Bool
 someOver limit [] = false
 someOver limit (p ∷ ps) = leb limit p || someOver limit ps
 
--- a number field is refused by its place, or by what reads its bytes
-abbrev pub integerFieldRefusal : ℕ → List ℕ → ℕ → ℕ → ℕ
-integerFieldRefusal f line p n = first (fieldRefusal (outsideOf 1 4 n 10) f line p n) (readIntegerRefusal n (length (docFrom line p)))
-
-abbrev pub bcdFieldRefusal : ℕ → List ℕ → ℕ → ℕ → ℕ
-bcdFieldRefusal f line p n = first (fieldRefusal (outsideOf 1 6 n 10) f line p n) (readBcdRefusal n (docFrom line p))
-
-abbrev pub realFieldRefusal : ℕ → List ℕ → ℕ → ℕ → ℕ → ℕ
-realFieldRefusal f line p n m = first (fieldRefusal (formRefusal n m) f line p n) (readRealRefusal n m (length (docFrom line p)))
-
 -- one chain
 abbrev pub Gives : ℕ → List Test → Type 0
 Gives number tests = InOrder (tests ∷ []) number
@@ -125,13 +116,15 @@ Gives number tests = InOrder (tests ∷ []) number
 
 pub record Orders : Type 0 where
   pub format-of : (f : ℕ) → Gives (formatRefusal f) (formatTest f ∷ [])
+  -- `stepped` and `step`
+  pub step : (register : ℕ) → Gives (stepRefusal register) ((12, ltb fifteenOnes register) ∷ [])
   pub put-sync : (f given : ℕ) → Gives (putSyncRefusal f given) (formatTest f ∷ (3, ltb given (namedBy f .sync / 8)) ∷ [])
   pub read : (f : ℕ) (s : State) (given : ℕ) → Gives (readRefusal f s given) (formatTest f ∷ (12, not (possibleOf s)) ∷ (2, ltb given lineBytes) ∷ [])
   pub write-line : (f long given : ℕ) → Gives (writeLineRefusal f long given) (formatTest f ∷ (2, ltb long lineBytes) ∷ (3, ltb given (namedBy f .bytes)) ∷ [])
   pub accepted : (f : ℕ) (line : List ℕ) (n : ℕ) → Gives (acceptedAnswer f line n) (sectorTests 1 12 f line n ++ checkTests f (layoutOf n) line)
   pub answers : (f given : ℕ) → Gives (answersRefusal f given) (formatTest f ∷ (2, ltb given lineBytes) ∷ [])
   -- filler
-  pub filler : (f : ℕ) (line : List ℕ) (n : ℕ) → Gives (lineRefusal f 1 12 n (length line)) (sectorTests 1 12 f line n)
+  pub filler : (f : ℕ) (line : List ℕ) (n : ℕ) → Gives (fillerRefusal f line n) (sectorTests 1 12 f line n)
   pub data-of : (f : ℕ) (line : List ℕ) (n given : ℕ)
       → Gives (dataAnswer f line n given) (sectorTests 1 12 f line n ++ ((3, ltb given (bytesOf (layoutOf n))) ∷ checkTests f (layoutOf n) line))
   -- sectors 2 to 11 and sector 12 by their two calls
@@ -164,7 +157,7 @@ pub record Orders : Type 0 where
   -- and in f64
   pub real-field : (f : ℕ) (line : List ℕ) (p n m : ℕ) → Gives (realFieldRefusal f line p n m) (fieldTests (noReal n m) f line p n)
   pub add-segment : (f : ℕ) (m : Marks) (line : List ℕ) (n : ℕ) (block : List ℕ)
-      → Gives (addedNumber (addSegmentAnswer f m line n block))
+      → Gives (addSegmentRefusal f m line n block)
       (formatTest f
       ∷ marksTest m
       ∷ (blockTests f n

@@ -2,8 +2,9 @@
 use Prim.Native.Nat.{ℕ}
 use mathlib.Core.Bool.{not, _||_}
 use mathlib.Core.List.{List}
+use mathlib.Core.Path.{_≡_}
 use lib.Dec.{eqb, ltb}
-use Rattle.refusals.specs.Refusals.{first, when, answered}
+use Rattle.refusals.specs.Refusals.{first, when, answered, kept, Genuine}
 use Rattle.document.specs.declared.segments.SubCommutation.{SubCommutation}
 use Rattle.document.specs.declared.segments.SubCommutation.the-variants.{Is, Refused}
 use Rattle.document.specs.Place.{docByte, docRefusal}
@@ -21,6 +22,9 @@ abbrev pub subRepeat : SubCommutation → ℕ
 subRepeat (Is segment repeat) = repeat
 subRepeat (Refused k) = 0
 
+abbrev pub subValues : SubCommutation → ℕ × ℕ
+subValues r = (subSegment r, subRepeat r)
+
 -- 7
 unfoldable pub segmentRefusal : ℕ → ℕ → ℕ → ℕ → ℕ
 segmentRefusal before segment between repeat = when (not (eqb before 0) || (ltb 24 segment || (not (eqb between 0) || ltb 7 repeat))) 7
@@ -28,6 +32,13 @@ segmentRefusal before segment between repeat = when (not (eqb before 0) || (ltb 
 -- 1, 2, 5, 6, 7
 unfoldable pub subCommutationRefusal : ℕ → List ℕ → ℕ
 subCommutationRefusal f line = first (docRefusal f line) (segmentRefusal (docByte line 193) (docByte line 194) (docByte line 195) (docByte line 196))
+
+-- THE CONTRACT of `sub_commutation`: the number, and segment and repeat
+abbrev pub SubCommutationOk : ℕ → List ℕ → SubCommutation → Type 0
+SubCommutationOk f line r =
+    (subNumber r ≡ subCommutationRefusal f line)
+    × (subValues r ≡ kept (subCommutationRefusal f line) (0, 0) (docByte line 194, docByte line 196))
+    × Genuine Refused r
 
 unfoldable pub subCommutationAnswer : ℕ → List ℕ → SubCommutation
 subCommutationAnswer f line = answered Refused (subCommutationRefusal f line) (Is (docByte line 194) (docByte line 196))

@@ -1,6 +1,6 @@
 // The two bytes that name a way of scanning: scan mode and scanner select. A byte that names none is kept.
 ghost use mathlib.Core.Path.{_≡_};
-ghost use Rattle.document.specs.Modes.{modeOf, scanModeAnswer, mirrorOf, scannerSelectAnswer};
+ghost use Rattle.document.specs.Modes.{modeOf, ScanModeOk, mirrorOf, ScannerSelectOk};
 use crate::place::doc_byte;
 use crate::place::doc_refusal;
 
@@ -60,7 +60,7 @@ fn mirror_of(byte: u8) -> Mirror
 
 // The scan mode, sector byte 3; refused with 1, 2, 5, 6. No byte is refused.
 pub fn scan_mode(format: u8, line: &[u8]) -> Scan
-    ensures { λ r. ⌜ r ≡ scanModeAnswer format (now (line .entry)) ⌝ }
+    ensures { λ r. ⌜ ScanModeOk format (now (line .entry)) r ⌝ }
 {
     let refused = doc_refusal(format, line);
     if refused != 0 {
@@ -71,7 +71,7 @@ pub fn scan_mode(format: u8, line: &[u8]) -> Scan
 
 // Scanner select, sector byte 67; refused with 1, 2, 5, 6. No byte is refused.
 pub fn scanner_select(format: u8, line: &[u8]) -> Scanner
-    ensures { λ r. ⌜ r ≡ scannerSelectAnswer format (now (line .entry)) ⌝ }
+    ensures { λ r. ⌜ ScannerSelectOk format (now (line .entry)) r ⌝ }
 {
     let refused = doc_refusal(format, line);
     if refused != 0 {

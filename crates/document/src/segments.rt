@@ -1,6 +1,6 @@
 // The sub-commutation bytes: which of the 25 segments of each block a line carries, and on which of its eight lines.
 ghost use mathlib.Core.Path.{_≡_};
-ghost use Rattle.document.specs.Segments.{segmentRefusal, subCommutationAnswer};
+ghost use Rattle.document.specs.Segments.{segmentRefusal, SubCommutationOk};
 use crate::place::doc_byte;
 use crate::place::doc_refusal;
 
@@ -31,7 +31,7 @@ fn segment_refusal(before: u8, segment: u8, between: u8, repeat: u8) -> u8
 
 // Segment and repeat of a line, sector bytes 193 to 196; refused with 1, 2, 5, 6, 7.
 pub fn sub_commutation(format: u8, line: &[u8]) -> SubCommutation
-    ensures { λ r. ⌜ r ≡ subCommutationAnswer format (now (line .entry)) ⌝ }
+    ensures { λ r. ⌜ SubCommutationOk format (now (line .entry)) r ⌝ }
 {
     let refused = doc_refusal(format, line);
     if refused != 0 {

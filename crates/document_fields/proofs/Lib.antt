@@ -1,3 +1,4 @@
 pub mod Served
-pub mod Floats
+pub mod Readings
+pub mod Settled
 pub mod Edges

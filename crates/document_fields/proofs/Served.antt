@@ -2,15 +2,15 @@
 -- its buffer. Said of every form. Assumes nothing.
 use mathlib.Core.Path.{_≡_}
 use mathlib.Core.List.{List}
-use Prim.Native.Nat.{ℕ, _+_, _≤_}
+use Prim.Native.Nat.{ℕ, _+_, _-_, _≤_}
 use native.Mathlib.Omega.{arith}
 use lib.Dec.{ltb}
-use lib.ListN.{length}
-use borrow.Author.Tests.{ltb-false}
-use Rattle.refusals.specs.Refusals.{first, when}
-use Rattle.refusals.proofs.Words.{none-first, none-second, none-when, or-false}
+use lib.ListN.{length, drop, length-drop}
+use borrow.Author.Tests.{ltb-false, le-ltb}
+use Rattle.refusals.specs.Refusals.{first, when, shortOf}
+use Rattle.refusals.proofs.Words.{none-first, none-second, none-when, when-false, or-false}
 use Rattle.formats.specs.Formats.{lineBytes, formatRefusal}
-use Rattle.document.specs.Place.{docBytes, docRefusal}
+use Rattle.document.specs.Place.{docBytes, docFrom, docRefusal}
 use Rattle.document.proofs.Known.{doc-long}
 use Rattle.document_fields.specs.Fields.{noPlace, fieldRefusal}
 
@@ -35,3 +35,11 @@ module _ (form f : ℕ) (line : List ℕ) (p n : ℕ) where
         high = ltb-false (docBytes + 1) (p + n) (place .1);
         long = doc-long f line (none-second (when (noPlace p n) 2) (docRefusal f line) more);
       }
+
+  -- so its bytes are there: neither 10 nor 2 is left for the reading of its number
+  pub there : fieldRefusal form f line p n ≡ 0 → (form ≡ 0) × (shortOf (length (docFrom line p)) n 2 ≡ 0)
+  unfolding shortOf docFrom
+  there e =
+      let s = served e in
+      let room : n ≤ length (drop (p - 1) line) = rw length-drop (omega (arith, s .low, s .high, s .long)) in
+      (s .formed, when-false (ltb (length (drop (p - 1) line)) n) 2 (le-ltb (length (drop (p - 1) line)) n room))

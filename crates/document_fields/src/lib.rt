@@ -1,13 +1,13 @@
 // Any number field of the documentation sector, by its place and form: I*n, BCD*n, R*n.m, and R*n.m in f64.
 //
-// The contracts cite `specs/Fields.antt` (`integerFieldAnswer`, `bcdFieldAnswer`, `realFieldAnswer`, `f64FieldAnswer`). Each is an
-// equation for the answer, for every input; refusals are tested in the paper's order.
+// The contracts cite `specs/Fields.antt` (`IntegerFieldOk`, `BcdFieldOk`, `RealFieldOk`, `F64FieldOk`). Each gives the paper's
+// number of the answer and its value, for every input; refusals are tested in the paper's order.
 //
 // Places are bytes of sector 1 counted from 1, its ID included, as in the crate `document`.
 //
 // No public function has a `requires`.
 ghost use mathlib.Core.Path.{_≡_};
-ghost use Rattle.document_fields.specs.Fields.{noPlace, fieldRefusal, integerFieldAnswer, bcdFieldAnswer, realFieldAnswer, f64FieldAnswer};
+ghost use Rattle.document_fields.specs.Fields.{noPlace, fieldRefusal, IntegerFieldOk, BcdFieldOk, RealFieldOk, F64FieldOk};
 use document::place::DOC_BYTES;
 use document::place::doc_refusal;
 use formats::format_refusal;
@@ -57,7 +57,7 @@ fn field_refusal(form: u8, format: u8, line: &[u8], place: usize, n: usize) -> u
 
 // I*n at a place; refused with 1, 10 for n outside 1 to 4, 2 for a short line or a field outside the bytes 1 to 2,293, 5, 6.
 pub fn integer_field(format: u8, line: &[u8], place: usize, n: usize) -> Integer
-    ensures { λ r. ⌜ r ≡ integerFieldAnswer format (now (line .entry)) place n ⌝ }
+    ensures { λ r. ⌜ IntegerFieldOk format (now (line .entry)) place n r ⌝ }
 {
     let form = refusals::outside(1, 4, n as u64, refusals::RANGE);
     let refused = field_refusal(form, format, line, place, n);
@@ -70,7 +70,7 @@ pub fn integer_field(format: u8, line: &[u8], place: usize, n: usize) -> Integer
 
 // BCD*n at a place; refused likewise, with 10 for n outside 1 to 6, and last with 7 for a digit over 9.
 pub fn bcd_field(format: u8, line: &[u8], place: usize, n: usize) -> Bcd
-    ensures { λ r. ⌜ r ≡ bcdFieldAnswer format (now (line .entry)) place n ⌝ }
+    ensures { λ r. ⌜ BcdFieldOk format (now (line .entry)) place n r ⌝ }
 {
     let form = refusals::outside(1, 6, n as u64, refusals::RANGE);
     let refused = field_refusal(form, format, line, place, n);
@@ -83,7 +83,7 @@ pub fn bcd_field(format: u8, line: &[u8], place: usize, n: usize) -> Bcd
 
 // R*n.m at a place as sign, magnitude and places; refused likewise, with 10 for n neither 4 nor 6 or m over 15.
 pub fn real_field(format: u8, line: &[u8], place: usize, n: usize, m: u8) -> Real
-    ensures { λ r. ⌜ r ≡ realFieldAnswer format (now (line .entry)) place n m ⌝ }
+    ensures { λ r. ⌜ RealFieldOk format (now (line .entry)) place n m r ⌝ }
 {
     let refused = field_refusal(form_refusal(n, m), format, line, place, n);
     if refused != 0 {
@@ -95,7 +95,7 @@ pub fn real_field(format: u8, line: &[u8], place: usize, n: usize, m: u8) -> Rea
 
 // R*n.m at a place in f64, refused as `real_field` refuses.
 pub fn f64_field(format: u8, line: &[u8], place: usize, n: usize, m: u8) -> Float
-    ensures { λ r. ⌜ r ≡ f64FieldAnswer format (now (line .entry)) place n m ⌝ }
+    ensures { λ r. ⌜ F64FieldOk format (now (line .entry)) place n m r ⌝ }
 {
     as_float(real_field(format, line, place, n, m))
 }

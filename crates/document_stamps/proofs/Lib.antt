@@ -1,4 +1,4 @@
 pub mod Position
-pub mod Numbers
+pub mod Settled
 pub mod Stamped
 pub mod Edges

@@ -1,6 +1,7 @@
 -- The line position: a difference of two numbers lies as far on either side of 0 as the larger one. Assumes nothing.
 use mathlib.Core.Bool.{Bool, true, false, cond}
 use mathlib.Core.List.{List}
+use mathlib.Core.Path.{_≡_, subst}
 use Prim.Native.Nat.{ℕ, zero, suc, _-_, _^_, _≤_, _<_}
 use native.Mathlib.Omega.{arith}
 use lib.Dec.{ltb}
@@ -8,8 +9,11 @@ use lib.IntN.{ℤ, pos, negsuc, _-ℤ_, natAbs}
 use lib.Signed.{mag}
 use mir.Syntax.{w32}
 use mir.Val.{SFits}
+use Rattle.refusals.proofs.Given.{unrefused}
 use Rattle.stamps.proofs.Digits.{bcd-below}
-use Rattle.document_stamps.specs.Lines.{countAt, positionOf, linesIn}
+use Rattle.document_stamps.specs.declared.lines.LineNumbers.{LineNumbers}
+use Rattle.document_stamps.specs.declared.lines.Numbered.the-variants.{Is, Refused}
+use Rattle.document_stamps.specs.Lines.{countAt, positionOf, linesIn, lineNumbersRefusal, lineNumbersAnswer}
 
 apart : (a b k : ℕ) → a ≤ k → b ≤ k → natAbs (pos a -ℤ pos b) ≤ k
 apart a zero k ha hb = omega arith
@@ -19,12 +23,24 @@ apart a (suc b) k ha hb = go (ltb a (suc b))
     go true = omega arith
     go false = omega arith
 
--- FROM -9,999 TO 9,999, where both numbers have four digits
-pub position-within : (count set : ℕ) → count < 10000 → set < 10000 → natAbs (positionOf count set) ≤ 9999
+within : (count set : ℕ) → count < 10000 → set < 10000 → natAbs (positionOf count set) ≤ 9999
 unfolding positionOf
-position-within count set hc hs = apart count set 9999 (omega arith) (omega arith)
+within count set hc hs = apart count set 9999 (omega arith) (omega arith)
 
--- and any difference of numbers of sixteen bits fits thirty-two
+-- of every line: both numbers have four digits
+pub lines-within : (line : List ℕ) → natAbs (linesIn line .position) ≤ 9999
+unfolding linesIn
+lines-within line = within (countAt line 11) (countAt line 7) (bcd-below line 10 2) (bcd-below line 6 2)
+
+-- FROM -9,999 TO 9,999, in every answer that the call gives
+pub position-within : (f : ℕ) (line : List ℕ) (l : LineNumbers) → lineNumbersAnswer f line ≡ Is l → natAbs (l .position) ≤ 9999
+unfolding lineNumbersAnswer
+position-within f line l e =
+    let given = unrefused Refused (lineNumbersRefusal f line) (Is (linesIn line)) (Is l) (λ k (h : Refused k ≡ Is l). let z : _≡_ {A = ℕ} 0 1 = cc in omega arith) e .1 in
+    let same : linesIn line ≡ l = cc in
+    subst (λ (x : LineNumbers). natAbs (x .position) ≤ 9999) same (lines-within line)
+
+-- any difference of numbers of sixteen bits fits thirty-two
 magnitude : (z : ℤ) → mag z ≤ natAbs z
 magnitude (pos n) = omega arith
 magnitude (negsuc n) = omega arith
@@ -32,8 +48,3 @@ magnitude (negsuc n) = omega arith
 pub position-fits : (count set : ℕ) → count < 2 ^ 16 → set < 2 ^ 16 → SFits w32 (positionOf count set)
 unfolding positionOf
 position-fits a b ha hb = record { sfits = omega (arith, magnitude (pos a -ℤ pos b), apart a b 65535 (omega arith) (omega arith)) }
-
--- so that the line position of every line does
-pub lines-within : (line : List ℕ) → natAbs (linesIn line .position) ≤ 9999
-unfolding linesIn
-lines-within line = position-within (countAt line 11) (countAt line 7) (bcd-below line 10 2) (bcd-below line 6 2)

@@ -1,6 +1,5 @@
 // The date and time at which a line was observed.
-ghost use mathlib.Core.Path.{_≡_};
-ghost use Rattle.document_stamps.specs.Dates.{dateAnswer};
+ghost use Rattle.document_stamps.specs.Dates.{DateOk};
 use document::place::doc_refusal;
 use stamps::dates::DateTime;
 use stamps::dates::date_in;
@@ -15,7 +14,7 @@ pub enum Dated {
 // The date of a line, sector bytes 20 to 27; refused with 1, 2, 5, 6, and 7 for a digit over 9 or a part out of its range
 // in these eight bytes. A 31st is taken in every month.
 pub fn date(format: u8, line: &[u8]) -> Dated
-    ensures { λ r. ⌜ r ≡ dateAnswer format (now (line .entry)) ⌝ }
+    ensures { λ r. ⌜ DateOk format (now (line .entry)) r ⌝ }
 {
     let refused = doc_refusal(format, line);
     if refused != 0 {

@@ -3,7 +3,7 @@ ghost use mathlib.Core.Path.{_≡_};
 ghost use Prim.Native.Nat.{_≤_};
 ghost use lib.ListN.{length};
 ghost use Rattle.formats.specs.Formats.{lineBytes};
-ghost use Rattle.document_stamps.specs.Lines.{countsRefusal, positionOf, linesIn, lineNumbersAnswer};
+ghost use Rattle.document_stamps.specs.Lines.{countsRefusal, positionOf, linesIn, LineNumbersOk};
 use document::place::doc_refusal;
 use refusals::first;
 use stamps::decimals::four_digits;
@@ -61,7 +61,7 @@ fn lines_in(line: &[u8]) -> LineNumbers
 // Set line, reset line and scan count, sector bytes 7 to 12, with the line position; refused with 1, 2, 5, 6, and 7 for a
 // digit over 9 in these six bytes.
 pub fn line_numbers(format: u8, line: &[u8]) -> Numbered
-    ensures { λ r. ⌜ r ≡ lineNumbersAnswer format (now (line .entry)) ⌝ }
+    ensures { λ r. ⌜ LineNumbersOk format (now (line .entry)) r ⌝ }
 {
     let refused = doc_refusal(format, line);
     if refused != 0 {

@@ -1,3 +1,4 @@
 pub mod Known
+pub mod Settled
 pub mod Readings
 pub mod Degrees

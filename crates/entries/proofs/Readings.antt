@@ -1,6 +1,6 @@
 -- A number read at a place of a block: the bytes that the code lends are those of the place, and an R read there is not
 -- refused. Assumes nothing.
-use mathlib.Core.Path.{_≡_, ap, _∙_}
+use mathlib.Core.Path.{_≡_, ap, subst, _∙_}
 use mathlib.Core.Bool.{false}
 use mathlib.Core.List.{List}
 use Prim.Native.Nat.{ℕ, _+_, _-_, _≤_}
@@ -9,10 +9,10 @@ use lib.ListN.{length, take, drop}
 use lib.Seq.{take-all}
 use Rattle.bits.specs.Bits.{stretch, inBase}
 use Rattle.bits.proofs.Stretches.{stretch-length}
-use Rattle.numbers.specs.declared.R.{R}
-use Rattle.numbers.specs.declared.Real.the-variants.{Is, Refused}
-use Rattle.numbers.specs.Reals.{noReal, realIn, readRealAnswer}
+use Rattle.numbers.specs.declared.Real.{Real}
+use Rattle.numbers.specs.Reals.{realValue, noReal, realIn, ReadRealOk}
 use Rattle.numbers.proofs.Answers.{real-if}
+use Rattle.numbers.proofs.Settled.{read-real-is}
 
 -- what the code lends
 abbrev pub lent : List ℕ → ℕ → ℕ → List ℕ
@@ -29,12 +29,7 @@ module _ (s : List ℕ) (place n : ℕ) (one : 1 ≤ place) (fits : place + n �
   pub whole-read : inBase 256 (take n (lent s place n)) ≡ inBase 256 (stretch s (place - 1) n)
   whole-read = ap (λ (l : List ℕ). inBase 256 (take n l)) (lent-is s place n) ∙ ap (inBase 256) (take-all n (stretch s (place - 1) n) (omega (arith, own)))
 
-  pub real-read : (m : ℕ) → noReal n m ≡ false → readRealAnswer n m (lent s place n) ≡ Is (realIn n m (stretch s (place - 1) n))
-  real-read m form = ap (readRealAnswer n m) (lent-is s place n) ∙ real-if n m (stretch s (place - 1) n) form (omega (arith, own))
-
--- the number of an answer, and that it is no refusal
-pub real-same : (x y : R) → Is x ≡ Is y → x ≡ y
-real-same x y e = cc
-
-pub real-not : (k : ℕ) (y : R) → Refused k ≡ Is y → ⊥
-real-not k y e = let z : _≡_ {A = ℕ} 0 1 = cc in omega arith
+  pub real-read : (m : ℕ) (r : Real) → noReal n m ≡ false → ReadRealOk n m (lent s place n) r → realValue r ≡ realIn n m (stretch s (place - 1) n)
+  real-read m r form e =
+      let said = subst (λ (l : List ℕ). ReadRealOk n m l r) (lent-is s place n) e in
+      ap realValue (read-real-is n m (stretch s (place - 1) n) r said ∙ real-if n m (stretch s (place - 1) n) form (omega (arith, own)))

@@ -2,10 +2,11 @@
 -- Places count bytes of the block from 1. Refusals stand in the order in which they are tested. Assumes nothing.
 use Prim.Native.Nat.{ℕ, _+_, _*_, _-_}
 use mathlib.Core.List.{List}
+use mathlib.Core.Path.{_≡_}
 use lib.Ieee as Ieee
 use lib.IntN.{ℤ, pos, _-ℤ_}
 use lib.ListN.{length}
-use Rattle.refusals.specs.Refusals.{first, shortOf, outsideOf, answered}
+use Rattle.refusals.specs.Refusals.{first, kept, shortOf, outsideOf, answered, Genuine}
 use Rattle.formats.specs.Formats.{formatRefusal}
 use Rattle.bits.specs.Bits.{stretch, inBase}
 use Rattle.numbers.specs.Reals.{realIn}
@@ -54,13 +55,16 @@ gridAt f block i j = record {
 }
 
 -- the paper's number and values for each answer
+abbrev pub noPoint : Grid
+noPoint = record { line = 0; pixel = 0; latitude = pos 0; longitude = pos 0 }
+
 abbrev pub mappedNumber : Mapped → ℕ
 mappedNumber (mapped.Is g) = 0
 mappedNumber (mapped.Refused r) = r
 
 abbrev pub mappedPoint : Mapped → Grid
 mappedPoint (mapped.Is g) = g
-mappedPoint (mapped.Refused r) = record { line = 0; pixel = 0; latitude = pos 0; longitude = pos 0 }
+mappedPoint (mapped.Refused r) = noPoint
 
 -- rows and columns 0 to 24
 unfoldable pub gridRefusal : ℕ → ℕ → ℕ
@@ -73,6 +77,13 @@ mappingRefusal f m i j given = entryRefusal f m mapping 0 (gridRefusal i j) give
 -- THE ANSWER to a point
 unfoldable pub mappingAnswer : ℕ → Marks → List ℕ → ℕ → ℕ → Mapped
 mappingAnswer f m block i j = answered mapped.Refused (mappingRefusal f m i j (length block)) (mapped.Is (gridAt f block i j))
+
+-- THE CONTRACT of `mapping`: the number of its refusal, and the point, 0 in every part where it is refused
+abbrev pub MappingOk : ℕ → Marks → List ℕ → ℕ → ℕ → Mapped → Type 0
+MappingOk f m block i j r =
+    (mappedNumber r ≡ mappingRefusal f m i j (length block))
+    × (mappedPoint r ≡ kept (mappingRefusal f m i j (length block)) noPoint (gridAt f block i j))
+    × Genuine mapped.Refused r
 
 -- ---- orbital elements
 
@@ -96,14 +107,17 @@ elementsIn block = record {
 }
 
 -- the paper's number and values for each answer
+abbrev pub noElements : Orbit
+noElements =
+    record { epoch = zeroFloat; axis = zeroFloat; eccentricity = zeroFloat; inclination = zeroFloat; node = zeroFloat; perigee = zeroFloat; anomaly = zeroFloat }
+
 abbrev pub orbitalNumber : Orbital → ℕ
 orbitalNumber (orbital.Is e) = 0
 orbitalNumber (orbital.Refused r) = r
 
 abbrev pub orbitalElements : Orbital → Orbit
 orbitalElements (orbital.Is e) = e
-orbitalElements (orbital.Refused r) =
-    record { epoch = zeroFloat; axis = zeroFloat; eccentricity = zeroFloat; inclination = zeroFloat; node = zeroFloat; perigee = zeroFloat; anomaly = zeroFloat }
+orbitalElements (orbital.Refused r) = noElements
 
 -- 1, 12, 2, 9
 abbrev pub elementsRefusal : ℕ → Marks → ℕ → ℕ
@@ -112,3 +126,10 @@ elementsRefusal f m given = entryRefusal f m orbit 0 0 given
 -- THE ANSWER to the elements
 unfoldable pub elementsAnswer : ℕ → Marks → List ℕ → Orbital
 elementsAnswer f m block = answered orbital.Refused (elementsRefusal f m (length block)) (orbital.Is (elementsIn block))
+
+-- THE CONTRACT of `elements`: the number of its refusal, and the elements, all zero where it is refused
+abbrev pub ElementsOk : ℕ → Marks → List ℕ → Orbital → Type 0
+ElementsOk f m block r =
+    (orbitalNumber r ≡ elementsRefusal f m (length block))
+    × (orbitalElements r ≡ kept (elementsRefusal f m (length block)) noElements (elementsIn block))
+    × Genuine orbital.Refused r

@@ -2,7 +2,7 @@
 ghost use mathlib.Core.Path.{_≡_};
 ghost use Prim.Native.Nat.{_+_, _≤_};
 ghost use lib.ListN.{length};
-ghost use Rattle.entries.specs.Entries.{latitudeOf, firstLongitude, longitudeOf, gridAt, mappingAnswer};
+ghost use Rattle.entries.specs.Entries.{latitudeOf, firstLongitude, longitudeOf, gridAt, MappingOk};
 use crate::entry::entry_refusal;
 use crate::entry::integer_at;
 use blocks::block::MAPPING;
@@ -68,7 +68,7 @@ fn grid_at(format: u8, block: &[u8], row: u16, column: u16) -> Grid
 
 // The point of a row and a column, each 0 to 24, of a finished mapping block. Refused with 1, 12, 10, 2, 9.
 pub fn mapping(format: u8, marks: Marks, block: &[u8], row: u16, column: u16) -> Mapped
-    ensures { λ r. ⌜ r ≡ mappingAnswer format marks (now (block .entry)) row column ⌝ }
+    ensures { λ r. ⌜ MappingOk format marks (now (block .entry)) row column r ⌝ }
 {
     let range = first(
         refusals::outside(0, LAST, row as u64, refusals::RANGE),

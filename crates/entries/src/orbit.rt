@@ -2,7 +2,7 @@
 ghost use mathlib.Core.Path.{_≡_};
 ghost use Prim.Native.Nat.{_≤_};
 ghost use lib.ListN.{length};
-ghost use Rattle.entries.specs.Entries.{elementsIn, elementsAnswer};
+ghost use Rattle.entries.specs.Entries.{elementsIn, ElementsOk};
 use crate::entry::entry_refusal;
 use crate::entry::float_at;
 use blocks::block::ORBIT;
@@ -44,7 +44,7 @@ fn elements_in(block: &[u8]) -> Orbit
 
 // The orbital elements of a finished orbit block. Refused with 1, 12, 2, 9.
 pub fn elements(format: u8, marks: Marks, block: &[u8]) -> Orbital
-    ensures { λ r. ⌜ r ≡ elementsAnswer format marks (now (block .entry)) ⌝ }
+    ensures { λ r. ⌜ ElementsOk format marks (now (block .entry)) r ⌝ }
 {
     let refused = entry_refusal(format, marks, ORBIT, 0, 0, block.len());
     if refused != 0 {

@@ -2,6 +2,7 @@ pub mod Every
 pub mod Far
 pub mod Back
 pub mod Sync
+pub mod OneRun
 pub mod Period
 pub mod Openings
 pub mod Sweep

@@ -2,5 +2,6 @@
 // fact is shown once, by computation where that is the way. `proofs/` has them, over the definitions of `scramble`:
 //
 //   Sync      SYNC is the only sequence of its length that keeps the rule and ends with fifteen ones
+//   OneRun    the bits go on after SYNC without a restart: SYNC and what is scrambled behind it are one run
 //   Openings  what SYNC opens and ends with, and what the printed opening is
 //   Windows   no window before the true one equals the tail; each differs from it in at least nine places

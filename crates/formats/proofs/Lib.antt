@@ -1,1 +1,2 @@
 pub mod Which
+pub mod Settled

@@ -6,7 +6,7 @@ use Prim.Native.Nat.{ℕ, _+_, _*_, _/_, _<_}
 use native.Mathlib.Omega.{arith}
 use lib.Dec.{eqb, lit<}
 use Rattle.refusals.specs.Refusals.{when}
-use Rattle.formats.specs.Formats.{svissr, hirid, formatOf, unknown, formatNumber, formatRefusal, formatIn, namedBy, checkStart, informationBits, lineBytes}
+use Rattle.formats.specs.Formats.{svissr, hirid, formatOf, unknown, formatNumber, formatRefusal, noFormat, formatIn, namedBy, checkStart, informationBits, lineBytes}
 use Rattle.formats.specs.declared.Format.{Format}
 use Rattle.formats.specs.declared.FormatAnswer.the-variants.{Is, Refused}
 
@@ -40,6 +40,26 @@ either P p q n f e = ⊎-elim (λ (h : f ≡ svissr). subst P (sym h) p) (λ (h 
 pub parts : (n : ℕ) (f : Format) → formatOf n ≡ Is f → Parts f
 parts = either Parts parts-1 parts-2
 
+-- ---- the answer to a number, and what it says
+
+pub number-of : (n : ℕ) → formatNumber (formatOf n) ≡ formatRefusal n
+unfolding formatRefusal unknown when
+number-of n = go (eqb n 1) (eqb n 2)
+  where
+    go : (a b : Bool) → formatNumber (cond a (Is svissr) (cond b (Is hirid) (Refused 1))) ≡ when (not a && not b) 1
+    go true b = refl
+    go false true = refl
+    go false false = refl
+
+pub format-of : (n : ℕ) → formatIn (formatOf n) ≡ namedBy n
+unfolding namedBy
+format-of n = go (eqb n 1) (eqb n 2)
+  where
+    go : (a b : Bool) → formatIn (cond a (Is svissr) (cond b (Is hirid) (Refused 1))) ≡ cond a svissr (cond b hirid noFormat)
+    go true b = refl
+    go false true = refl
+    go false false = refl
+
 -- ---- a number that is not refused
 
 pub record Named (n : ℕ) : Type 0 where
@@ -47,35 +67,26 @@ pub record Named (n : ℕ) : Type 0 where
   pub is : formatOf n ≡ Is format
 
 pub named : (n : ℕ) → formatRefusal n ≡ 0 → Named n
-unfolding formatRefusal
 named n = go (eqb n 1) (eqb n 2) refl
   where
-    go : (a b : Bool) → formatOf n ≡ cond a (Is svissr) (cond b (Is hirid) (Refused 1)) → formatNumber (formatOf n) ≡ 0 → Named n
+    go : (a b : Bool) → formatOf n ≡ cond a (Is svissr) (cond b (Is hirid) (Refused 1)) → formatRefusal n ≡ 0 → Named n
     go true b is e = record { format = svissr; is = is }
     go false true is e = record { format = hirid; is = is }
-    go false false is e = absurd (let z : _≡_ {A = ℕ} 1 0 = sym (ap formatNumber is) ∙ e in let w : ⊥ = omega arith in w)
+    go false false is e = absurd (let z : _≡_ {A = ℕ} 1 0 = sym (ap formatNumber is) ∙ number-of n ∙ e in let w : ⊥ = omega arith in w)
 
 pub is-known : (n : ℕ) (f : Format) → formatOf n ≡ Is f → formatRefusal n ≡ 0
-unfolding formatRefusal
-is-known n f e = ap formatNumber e
+is-known n f e = sym (number-of n) ∙ ap formatNumber e
 
 pub is-unknown : (n k : ℕ) → formatOf n ≡ Refused k → formatRefusal n ≡ k
-unfolding formatRefusal
-is-unknown n k e = ap formatNumber e
+is-unknown n k e = sym (number-of n) ∙ ap formatNumber e
 
 -- 1 exactly where the number names none
 pub refused-when : (n : ℕ) → formatRefusal n ≡ when (unknown n) 1
-unfolding formatRefusal unknown when
-refused-when n = go (eqb n 1) (eqb n 2)
-  where
-    go : (a b : Bool) → formatNumber (cond a (Is svissr) (cond b (Is hirid) (Refused 1))) ≡ when (not a && not b) 1
-    go true b = refl
-    go false true = refl
-    go false false = refl
+unfolding formatRefusal
+refused-when n = refl
 
 pub named-by : (n : ℕ) (f : Format) → formatOf n ≡ Is f → namedBy n ≡ f
-unfolding namedBy
-named-by n f e = ap formatIn e
+named-by n f e = sym (format-of n) ∙ ap formatIn e
 
 -- a number that names none is refused
 pub some-number : (n k : ℕ) → formatOf n ≡ Refused k → k ≡ 0 → ⊥
@@ -97,7 +108,7 @@ pub start-zero : (n : ℕ) → checkStart n ≡ 0
 unfolding checkStart namedBy
 start-zero n = go (eqb n 1) (eqb n 2)
   where
-    go : (a b : Bool) → formatIn (cond a (Is svissr) (cond b (Is hirid) (Refused 1))) .«check_start» ≡ 0
+    go : (a b : Bool) → cond a svissr (cond b hirid noFormat) .«check_start» ≡ 0
     go true b = refl
     go false true = refl
     go false false = refl

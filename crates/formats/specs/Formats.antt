@@ -4,6 +4,7 @@ use Prim.Native.Nat.{ℕ, _+_, _*_}
 use mathlib.Core.Bool.{Bool, cond, not, _&&_}
 use mathlib.Core.Path.{_≡_, refl}
 use lib.Dec.{eqb}
+use Rattle.refusals.specs.Refusals.{when, Genuine}
 use Rattle.formats.specs.declared.Format.{Format}
 use Rattle.formats.specs.declared.FormatAnswer.{FormatAnswer}
 use Rattle.formats.specs.declared.FormatAnswer.the-variants.{Is, Refused}
@@ -31,25 +32,29 @@ formatOf n = cond (eqb n 1) (Is svissr) (cond (eqb n 2) (Is hirid) (Refused 1))
 unfoldable pub unknown : ℕ → Bool
 unknown n = not (eqb n 1) && not (eqb n 2)
 
--- the paper's number for each answer to a format number
-abbrev pub formatNumber : FormatAnswer → ℕ
-formatNumber (Is f) = 0
-formatNumber (Refused n) = n
-
 -- 1: the format is neither 1 nor 2
 unfoldable pub formatRefusal : ℕ → ℕ
-formatRefusal n = formatNumber (formatOf n)
+formatRefusal n = when (unknown n) 1
 
 -- the format that a number names; one without bits where it names none
 abbrev pub noFormat : Format
 noFormat = record { number = 0; sync = 0; information = 0; dummy = 0; bytes = 0; «check_start» = 0 }
 
+unfoldable pub namedBy : ℕ → Format
+namedBy n = cond (eqb n 1) svissr (cond (eqb n 2) hirid noFormat)
+
+-- the paper's number and values for each answer to a format number
+abbrev pub formatNumber : FormatAnswer → ℕ
+formatNumber (Is f) = 0
+formatNumber (Refused n) = n
+
 abbrev pub formatIn : FormatAnswer → Format
 formatIn (Is f) = f
 formatIn (Refused n) = noFormat
 
-unfoldable pub namedBy : ℕ → Format
-namedBy n = formatIn (formatOf n)
+-- THE CONTRACT of `Format::of`
+abbrev pub FormatOk : ℕ → FormatAnswer → Type 0
+FormatOk n r = (formatNumber r ≡ formatRefusal n) × (formatIn r ≡ namedBy n) × Genuine Refused r
 
 -- the start value of the check: that of the format
 unfoldable pub checkStart : ℕ → ℕ

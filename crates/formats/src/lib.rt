@@ -3,7 +3,7 @@
 //
 // The contracts cite `specs/Formats.antt`. No public function has a `requires`.
 ghost use mathlib.Core.Path.{_≡_};
-ghost use Rattle.formats.specs.Formats.{svissr, hirid, formatOf, formatRefusal, checkStart};
+ghost use Rattle.formats.specs.Formats.{svissr, hirid, formatRefusal, checkStart, FormatOk};
 
 // A format: its number, the bits of the three parts of one line on the wire, the bytes of them all, and the start value of
 // the check of its sectors.
@@ -78,7 +78,7 @@ impl Format {
 
     // The format of a number; refused with 1 where the number is neither 1 nor 2.
     pub fn of(number: u8) -> FormatAnswer
-        ensures { λ r. ⌜ r ≡ formatOf number ⌝ }
+        ensures { λ r. ⌜ FormatOk number r ⌝ }
     {
         match number {
             1 => FormatAnswer::Is(Format::svissr()),

@@ -1,2 +1,4 @@
 pub mod Puts
+pub mod Settled
 pub mod RoundTrip
+pub mod Edges

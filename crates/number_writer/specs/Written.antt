@@ -2,14 +2,20 @@
 -- Assumes nothing.
 use mathlib.Core.Bool.{Bool}
 use mathlib.Core.List.{List, _∷_, _++_}
+use mathlib.Core.Path.{_≡_}
 use Prim.Native.Nat.{ℕ, _-_, _^_}
 use lib.Dec.{ltb}
 use lib.ListN.{length, drop}
-use Rattle.refusals.specs.Refusals.{first, when, kept, answered, shortOf}
+use Rattle.refusals.specs.Refusals.{first, when, kept, answered, shortOf, Genuine}
 use Rattle.bits.specs.Bits.{digits, fieldsOf}
 use Rattle.number_writer.specs.declared.Put.{Put}
 use Rattle.number_writer.specs.declared.Put.the-variants.{Done, Refused}
 use Rattle.numbers.specs.Reals.{formRefusal, signBit, magnitudeBits}
+
+-- the paper's number for each answer
+abbrev pub putNumber : Put → ℕ
+putNumber Done = 0
+putNumber (Refused r) = r
 
 -- the n bytes of sign bit and magnitude
 unfoldable pub realBytes : Bool → ℕ → ℕ → List ℕ
@@ -22,6 +28,10 @@ putRealRefusal magnitude n m room =
 
 unfoldable pub putRealAnswer : ℕ → ℕ → ℕ → ℕ → Put
 putRealAnswer magnitude n m room = answered Refused (putRealRefusal magnitude n m room) Done
+
+-- THE CONTRACT of `put_real`: the number of its refusal. Its output is `putRealLeft`
+abbrev pub PutRealOk : ℕ → ℕ → ℕ → ℕ → Put → Type 0
+PutRealOk magnitude n m room r = (putNumber r ≡ putRealRefusal magnitude n m room) × Genuine Refused r
 
 -- the output
 unfoldable pub putRealLeft : Bool → ℕ → ℕ → ℕ → List ℕ → List ℕ

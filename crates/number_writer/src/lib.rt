@@ -1,6 +1,6 @@
 // The bytes of R*n.m written.
 //
-// The contracts cite `specs/Written.antt` (`putRealAnswer`, `putRealLeft`): equations for the answer and for every lent byte,
+// The contracts cite `specs/Written.antt` (`PutRealOk`, `putRealLeft`): the paper's number of the answer and every lent byte,
 // for every input; refusals are tested in the paper's order. What is written is read again by the crate `numbers`, and
 // what was read is written again (`proofs/RoundTrip.antt`).
 //
@@ -9,7 +9,7 @@ ghost use mathlib.Core.Path.{_≡_};
 ghost use Prim.Native.Nat.{_+_, _*_, _^_, _≤_, _<_};
 ghost use lib.ListN.{length};
 ghost use Rattle.numbers.specs.Reals.{signBit};
-ghost use Rattle.number_writer.specs.Written.{putRealRefusal, putRealAnswer, putRealLeft};
+ghost use Rattle.number_writer.specs.Written.{putRealRefusal, PutRealOk, putRealLeft};
 use numbers::form_refusal;
 use numbers::sign_weight;
 use octets::put_whole;
@@ -50,7 +50,7 @@ fn put_refusal(magnitude: u64, n: usize, m: u8, room: usize) -> u8
 // The bytes of R*n.m: 10 for n neither 4 nor 6 or m over 15, 11 for a magnitude that does not fit beside the sign bit,
 // 3 for an output under n bytes. Bytes past the n stay, and a refused call changes none.
 pub fn put_real(negative: bool, magnitude: u64, n: usize, m: u8, out: &mut [u8]) -> Put
-    ensures { λ r. ⌜ r ≡ putRealAnswer magnitude n m (length (now (out .entry))) ⌝ }
+    ensures { λ r. ⌜ PutRealOk magnitude n m (length (now (out .entry))) r ⌝ }
     ensures { λ r. ⌜ now (out .exit) ≡ putRealLeft negative magnitude n m (now (out .entry)) ⌝ }
 {
     let refused = put_refusal(magnitude, n, m, out.len());

@@ -1,9 +1,9 @@
 -- When a reading call answers with a number, and what it then says: the form is one of the paper, the bytes are there,
 -- and the number lies below its bound. Assumes nothing.
-use mathlib.Core.Path.{_≡_, refl, _∙_}
+use mathlib.Core.Path.{_≡_, _∙_}
 use mathlib.Core.Bool.{false}
 use mathlib.Core.List.{List}
-use Prim.Native.Nat.{ℕ, zero, suc, _*_, _^_, _≤_, _<_}
+use Prim.Native.Nat.{ℕ, _*_, _^_, _≤_, _<_}
 use native.Mathlib.Nat.{lt-of-lt-of-le}
 use native.Mathlib.Omega.{arith}
 use lib.ListN.{length, take, drop, length-take}
@@ -20,13 +20,12 @@ use Rattle.bits.proofs.Fields.{length-fields}
 use Rattle.numbers.specs.declared.R.{R}
 use Rattle.numbers.specs.declared.Integer.the-variants as integer
 use Rattle.numbers.specs.declared.Bcd.the-variants as bcd
-use Rattle.numbers.specs.declared.Real.{Real}
 use Rattle.numbers.specs.declared.Real.the-variants as real
 use Rattle.numbers.specs.declared.Float.the-variants as float
 use Rattle.numbers.specs.Integers.{readIntegerRefusal, readIntegerAnswer}
 use Rattle.numbers.specs.Decimals.{someOver9, decimalOf, digitsIn, readBcdRefusal, readBcdAnswer}
 use Rattle.numbers.specs.Reals.{noReal, magnitudeBits, formRefusal, realIn, readRealRefusal, readRealAnswer}
-use Rattle.numbers.specs.Floats.{Fits, FitsIn, valueOf, asFloat, readF64Answer}
+use Rattle.numbers.specs.Floats.{Fits, valueOf, readF64Answer}
 use Rattle.refusals.proofs.Given.{answered-first, unrefused}
 use Rattle.numbers.proofs.Ranges.{formed, real-form}
 use Rattle.numbers.proofs.Nines.{over-none}
@@ -115,23 +114,6 @@ real-fits n m bytes e =
     let short : length bits ≤ 47 = omega (arith, length-take (magnitudeBits n) (drop 1 (bitsOf bytes))) in
     (lt-of-lt-of-le (number-lt bits (part-below bytes 1 (magnitudeBits n))) (pow-mono {i = length bits} {j = 47} short), omega arith)
 
--- an answer fits where what is asked for does
-pub answered-fits : (k : ℕ) (x : Real) → (k ≡ 0 → FitsIn x) → FitsIn (answered real.Refused k x)
-unfolding answered FitsIn
-answered-fits zero x h = h refl
-answered-fits (suc k) x h = tt
-
-pub read-fits : (n m : ℕ) (bytes : List ℕ) → FitsIn (readRealAnswer n m bytes)
-unfolding readRealAnswer FitsIn
-read-fits n m bytes =
-    answered-fits (readRealRefusal n m (length bytes)) (real.Is (realIn n m bytes)) (λ e. real-fits n m bytes (real-passed n m (length bytes) e .0))
-
 pub float-if : (n m : ℕ) (bytes : List ℕ) → noReal n m ≡ false → n ≤ length bytes → readF64Answer n m bytes ≡ float.Is (valueOf (realIn n m bytes))
-unfolding readF64Answer asFloat
-float-if n m bytes e h = rw (real-if n m bytes e h)
-
--- a refusal stays the refusal that it is, also where the tests were those of a call
-pub answered-float : (k : ℕ) (x : Real) → asFloat (answered real.Refused k x) ≡ answered float.Refused k (asFloat x)
-unfolding answered asFloat
-answered-float zero x = refl
-answered-float (suc k) x = refl
+unfolding readF64Answer readRealRefusal formRefusal first when shortOf answered
+float-if n m bytes e h = rw (e, le-ltb (length bytes) n h)

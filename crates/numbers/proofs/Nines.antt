@@ -26,7 +26,7 @@ over-none (d ∷ ds) e =
     let small : d ≤ 9 = ltb-false 9 d (t .0) in
     (omega arith, over-none ds (t .1))
 
-or-true : (a : Bool) → (a || true) ≡ true
+pub or-true : (a : Bool) → (a || true) ≡ true
 or-true true = refl
 or-true false = refl
 

@@ -14,7 +14,7 @@ use Rattle.refusals.specs.Refusals.{first, when, answered, shortOf, outside, ou
 use Rattle.numbers.specs.Integers.{readIntegerRefusal, readIntegerAnswer}
 use Rattle.numbers.specs.Decimals.{someOver9, digitsIn, readBcdRefusal, readBcdAnswer}
 use Rattle.numbers.specs.Reals.{noReal, formRefusal, realIn, readRealRefusal, readRealAnswer}
-use Rattle.numbers.specs.Floats.{valueOf, asFloat, readF64Answer}
+use Rattle.numbers.specs.Floats.{valueOf, readF64Answer}
 
 pub p8 : readRealAnswer 4 2 (0x00 ∷ 0x00 ∷ 0x07 ∷ 0xB5 ∷ []) ≡ real.Is (record { negative = false; magnitude = 1973; places = 2 })
 unfolding readRealAnswer readRealRefusal formRefusal answered first when shortOf noReal realIn bitsOf packedOf digits part stretch numberOf inBase through longer
@@ -38,5 +38,5 @@ p11-refused = refl
 
 -- `fin true 0 0` is the zero with its sign set
 pub negative-zero : readF64Answer 4 3 (0x80 ∷ 0x00 ∷ 0x00 ∷ 0x00 ∷ []) ≡ float.Is (fin true 0 (pos 0))
-unfolding readF64Answer asFloat valueOf readRealAnswer readRealRefusal formRefusal answered first when shortOf noReal realIn bitsOf packedOf digits part stretch numberOf inBase through longer div ofInt neg
+unfolding readF64Answer valueOf readRealRefusal formRefusal answered first when shortOf noReal realIn bitsOf packedOf digits part stretch numberOf inBase through longer div ofInt neg
 negative-zero = refl

@@ -2,13 +2,23 @@
 -- one over 9. Assumes nothing.
 use mathlib.Core.Bool.{Bool, false, _||_}
 use mathlib.Core.List.{List, [], _∷_}
+use mathlib.Core.Path.{_≡_}
 use Prim.Native.Nat.{ℕ, _*_}
 use lib.Dec.{ltb}
 use lib.ListN.{length}
-use Rattle.refusals.specs.Refusals.{first, when, answered, shortOf, outsideOf}
+use Rattle.refusals.specs.Refusals.{first, when, kept, answered, shortOf, outsideOf, Genuine}
 use Rattle.bits.specs.Bits.{bitsOf, inBase, fieldsOf}
 use Rattle.numbers.specs.declared.Bcd.{Bcd}
 use Rattle.numbers.specs.declared.Bcd.the-variants.{Is, Refused}
+
+-- the paper's number and value for each answer
+abbrev pub bcdNumber : Bcd → ℕ
+bcdNumber (Is v) = 0
+bcdNumber (Refused r) = r
+
+abbrev pub bcdValue : Bcd → ℕ
+bcdValue (Is v) = v
+bcdValue (Refused r) = 0
 
 -- a digit is over 9
 unfoldable pub someOver9 : List ℕ → Bool
@@ -29,3 +39,10 @@ readBcdRefusal n bytes = first (outsideOf 1 6 n 10) (first (shortOf (length byte
 
 unfoldable pub readBcdAnswer : ℕ → List ℕ → Bcd
 readBcdAnswer n bytes = answered Refused (readBcdRefusal n bytes) (Is (inBase 10 (digitsIn n bytes)))
+
+-- THE CONTRACT of `read_bcd`: the number of its refusal, and the value, 0 where it is refused
+abbrev pub ReadBcdOk : ℕ → List ℕ → Bcd → Type 0
+ReadBcdOk n bytes r =
+    (bcdNumber r ≡ readBcdRefusal n bytes)
+    × (bcdValue r ≡ kept (readBcdRefusal n bytes) 0 (inBase 10 (digitsIn n bytes)))
+    × Genuine Refused r

@@ -1,9 +1,9 @@
 // The numbers of the documentation fields, read from the first bytes of a slice: I*n, BCD*n and R*n.m, and R*n.m in f64
 // too.
 //
-// The contracts cite `specs/Integers.antt` (`readIntegerAnswer`), `specs/Decimals.antt` (`readBcdAnswer`),
-// `specs/Reals.antt` (`readRealAnswer`) and `specs/Floats.antt` (`readF64Answer`). Each is an equation for the answer, for
-// every input; refusals are tested in the paper's order.
+// The contracts cite `specs/Integers.antt` (`ReadIntegerOk`), `specs/Decimals.antt` (`ReadBcdOk`), `specs/Reals.antt`
+// (`ReadRealOk`) and `specs/Floats.antt` (`ReadF64Ok`). Each gives the paper's number of the answer and its value, for every
+// input; refusals are tested in the paper's order.
 //
 // No public function has a `requires`, but those marked "Inner.", which the crates above use.
 ghost use mathlib.Core.Path.{_≡_};
@@ -11,10 +11,10 @@ ghost use Prim.Native.Nat.{_+_, _-_, _*_, _^_, _≤_, _<_};
 ghost use lib.ListN.{length};
 ghost use Rattle.bits.specs.Bits.{bitsOf, fieldsOf};
 ghost use Rattle.refusals.specs.Refusals.{first, outsideOf, shortOf};
-ghost use Rattle.numbers.specs.Integers.{readIntegerAnswer};
-ghost use Rattle.numbers.specs.Decimals.{decimalOf, readBcdAnswer};
-ghost use Rattle.numbers.specs.Reals.{formRefusal, signBit, readRealAnswer};
-ghost use Rattle.numbers.specs.Floats.{Fits, FitsIn, valueOf, asFloat, readF64Answer};
+ghost use Rattle.numbers.specs.Integers.{ReadIntegerOk};
+ghost use Rattle.numbers.specs.Decimals.{decimalOf, ReadBcdOk};
+ghost use Rattle.numbers.specs.Reals.{formRefusal, signBit, ReadRealOk};
+ghost use Rattle.numbers.specs.Floats.{Fits, FitsIn, valueOf, asFloat, ReadF64Ok};
 use octets::whole;
 
 // The answer to I*n.
@@ -60,7 +60,7 @@ fn size_refusal(high: u64, n: usize, given: usize) -> u8
 
 // I*n: 10 for n outside 1 to 4, 2 for fewer than n bytes.
 pub fn read_integer(bytes: &[u8], n: usize) -> Integer
-    ensures { λ r. ⌜ r ≡ readIntegerAnswer n (now (bytes .entry)) ⌝ }
+    ensures { λ r. ⌜ ReadIntegerOk n (now (bytes .entry)) r ⌝ }
 {
     let refused = size_refusal(4, n, bytes.len());
     if refused != 0 {
@@ -89,7 +89,7 @@ fn decimal(bytes: &[u8], count: usize) -> Bcd
 
 // BCD*n: 10 for n outside 1 to 6, 2 for fewer than n bytes, 7 for a digit over 9 in those n.
 pub fn read_bcd(bytes: &[u8], n: usize) -> Bcd
-    ensures { λ r. ⌜ r ≡ readBcdAnswer n (now (bytes .entry)) ⌝ }
+    ensures { λ r. ⌜ ReadBcdOk n (now (bytes .entry)) r ⌝ }
 {
     let refused = size_refusal(6, n, bytes.len());
     if refused != 0 {
@@ -141,7 +141,7 @@ pub fn form_refusal(n: usize, m: u8) -> u8
 
 // R*n.m as sign, magnitude and places: 10 for n neither 4 nor 6 or m over 15, 2 for fewer than n bytes.
 pub fn read_real(bytes: &[u8], n: usize, m: u8) -> Real
-    ensures { λ r. ⌜ r ≡ readRealAnswer n m (now (bytes .entry)) ⌝ }
+    ensures { λ r. ⌜ ReadRealOk n m (now (bytes .entry)) r ⌝ }
 {
     let refused = refusals::first(
         form_refusal(n, m),
@@ -208,7 +208,7 @@ pub fn as_float(r: Real) -> Float
 
 // R*n.m in f64, refused as `read_real` refuses.
 pub fn read_f64(bytes: &[u8], n: usize, m: u8) -> Float
-    ensures { λ r. ⌜ r ≡ readF64Answer n m (now (bytes .entry)) ⌝ }
+    ensures { λ r. ⌜ ReadF64Ok n m (now (bytes .entry)) r ⌝ }
 {
     as_float(read_real(bytes, n, m))
 }

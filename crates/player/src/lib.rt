@@ -3,8 +3,9 @@
 //
 // What it reads is the operating system's, and no contract can speak of it: of these functions it is proved that they are
 // safe and end, and that the places in the piece are right. What a line is is proved of `reader`.
+ghost use mathlib.Core.Path.{_≡_};
 ghost use Prim.Native.Nat.{_≤_};
-ghost use Rattle.player.specs.Places.{Places};
+ghost use Rattle.player.specs.Places.{Places, started};
 use libc::STDERR_FILENO;
 use libc::STDIN_FILENO;
 use reader::Answer;
@@ -27,7 +28,7 @@ pub struct Player {
 
 // A recording from its first byte.
 pub fn start(fd: i32, format: u8) -> Player
-    ensures { λ r. ⌜ Places r ⌝ }
+    ensures { λ r. ⌜ r ≡ started fd format ⌝ }
 {
     Player {
         fd: fd,
@@ -180,13 +181,11 @@ pub fn opened() -> Player
     ready(open(1), 1)
 }
 
+// Not more where the file could not be opened.
 fn ready(fd: i32, format: u8) -> Player
     ensures { λ r. ⌜ Places r ⌝ }
 {
     let p = start(fd, format);
     let state = p.state;
-    if fd < 0 {
-        return moved(p, state, 0, 0, false, false);
-    }
-    p
+    moved(p, state, 0, 0, false, fd >= 0)
 }

@@ -2,21 +2,23 @@
 -- call; and a refused one gives back the record that it was handed, takes nothing, and leaves the buffer. Assumes nothing.
 use mathlib.Core.Bool.{Bool, true, false, cond}
 use mathlib.Core.List.{List}
-use mathlib.Core.Path.{_≡_, refl, ap}
-use Prim.Native.Nat.{ℕ, zero, _<_}
+use mathlib.Core.Path.{_≡_, refl, sym, ap}
+use Prim.Native.Nat.{ℕ, zero, _≤_, _<_}
 use native.Mathlib.Omega.{arith}
 use lib.Dec.{ltb, eqb}
+use borrow.Author.Tests.{ltb-false, eqb-true, eqb-false}
 use Rattle.reader_record.specs.declared.State.{State}
 use Rattle.reader.specs.declared.Answer.{Answer}
 use Rattle.reader.specs.declared.Answer.the-variants.{Refused, More, Line}
 use Rattle.reader_record.specs.Records.{freshState}
-use Rattle.reader.specs.Read.{readAnswer, readLeft}
+use Rattle.reader.specs.Read.{readAnswer, readLeft, refusalOf, takenBy}
 use Rattle.cuts.proofs.Keeps.{refused-stays}
 use Rattle.refusals.specs.Refusals.{first}
 use Rattle.formats.specs.Formats.{formatRefusal}
 use Rattle.rack_recording.specs.declared.ReaderState.{ReaderState}
 use Rattle.rack_recording.specs.declared.ReadAnswer.{ReadAnswer}
 use Rattle.rack_recording.specs.Recording.{handedOf, flagOf, keptOf, refusedRead, readGiven, readOf, lineLeft}
+use Rattle.rack.specs.Demand3.{Unchanged}
 
 -- a truth value comes back from its number, which is never over 1
 flag-back : (b : Bool) → eqb (flagOf b) 1 ≡ b
@@ -41,6 +43,25 @@ handed-kept s = ap (λ (b : Bool). record {
   «waiting_count» = s .«waiting_count»;
 }) (flag-back (s .«in_line»))
 
+-- and a record whose flag is 0 or 1 comes back too
+kept-handed : (r : ReaderState) → r .«in_line» ≤ 1 → keptOf (handedOf r) ≡ r
+unfolding handedOf keptOf
+kept-handed r h = ap (λ (n : ℕ). record {
+  position = r .position;
+  search = r .search;
+  register = r .register;
+  «in_line» = n;
+  «search_count» = r .«search_count»;
+  unread = r .unread;
+  «unread_count» = r .«unread_count»;
+  waiting = r .waiting;
+  «waiting_count» = r .«waiting_count»;
+}) (go (eqb (r .«in_line») 1) refl)
+  where
+    go : (b : Bool) → eqb (r .«in_line») 1 ≡ b → flagOf b ≡ r .«in_line»
+    go true e = sym (eqb-true (r .«in_line») 1 e)
+    go false e = let ne = eqb-false (r .«in_line») 1 e in omega arith
+
 -- the flag of a record that a call gave, as the caller tests it
 pub kept-flag : (s : State) → eqb (keptOf s .«in_line») 1 ≡ s .«in_line»
 unfolding keptOf
@@ -60,22 +81,41 @@ pub line-through : (f : ℕ) (s : State) (piece line : List ℕ) → lineLeft f 
 unfolding lineLeft keptOf
 line-through f s piece line = rw (flag-fits (s .«in_line»), handed-kept s)
 
--- a call that left everything as it was: the record, the piece, the buffer
-pub record Unchanged (r : ReaderState) (buf : List ℕ) (a : ReadAnswer) (after : List ℕ) : Type 0 where
-  pub given-back : a .state ≡ r
-  pub taken-none : a .taken ≡ 0
-  pub buffer : after ≡ buf
+-- A CALL FROM ANY RECORD: refused for its flag, or the reader's call with what the record stands for
+module _ (f : ℕ) (r : ReaderState) (piece buf : List ℕ) (P : ReadAnswer → List ℕ → Type 0) where
+  pub read-ways : P (refusedRead (first (formatRefusal f) 12) r) buf
+      → (keptOf (handedOf r) ≡ r → P (readGiven r (readAnswer f (handedOf r) piece buf)) (readLeft f (handedOf r) piece buf))
+      → P (readOf f r piece buf) (lineLeft f r piece buf)
+  unfolding readOf lineLeft
+  read-ways turned served = go (ltb 1 (r .«in_line»)) refl
+    where
+      go : (b : Bool) → ltb 1 (r .«in_line») ≡ b
+          → P (cond b (refusedRead (first (formatRefusal f) 12) r) (readGiven r (readAnswer f (handedOf r) piece buf))) (cond b buf (readLeft f (handedOf r) piece buf))
+      go true e = turned
+      go false e = served (kept-handed r (ltb-false 1 (r .«in_line») e))
 
+-- what an answer brings across
+pub given-refused : (was : ReaderState) (x : Answer) → readGiven was x .refused ≡ refusalOf x
+unfolding readGiven refusedRead
+given-refused was (Refused n) = refl
+given-refused was (More t s) = refl
+given-refused was (Line t s) = refl
+
+pub given-taken : (was : ReaderState) (x : Answer) → readGiven was x .taken ≡ takenBy x
+unfolding readGiven refusedRead
+given-taken was (Refused n) = refl
+given-taken was (More t s) = refl
+given-taken was (Line t s) = refl
+
+-- A REFUSED CALL gives back the record that it was handed, takes nothing, and leaves the buffer
 pub read-refused : (f : ℕ) (r : ReaderState) (piece buf : List ℕ) → zero < readOf f r piece buf .refused → Unchanged r buf (readOf f r piece buf) (lineLeft f r piece buf)
-unfolding readOf lineLeft refusedRead readGiven
-read-refused f r piece buf = go (ltb 1 (r .«in_line»))
+unfolding refusedRead readGiven
+read-refused f r piece buf =
+    read-ways f r piece buf (λ (a : ReadAnswer) (after : List ℕ). zero < a .refused → Unchanged r buf a after)
+    (λ h. record { given-back = refl; taken-none = refl; none-complete = refl; buffer = refl })
+    (λ k. by (readAnswer f (handedOf r) piece buf) refl)
   where
     by : (x : Answer) → readAnswer f (handedOf r) piece buf ≡ x → zero < readGiven r x .refused → Unchanged r buf (readGiven r x) (readLeft f (handedOf r) piece buf)
-    by (Refused n) e h = record { given-back = refl; taken-none = refl; buffer = refused-stays f (handedOf r) piece buf n e }
+    by (Refused n) e h = record { given-back = refl; taken-none = refl; none-complete = refl; buffer = refused-stays f (handedOf r) piece buf n e }
     by (More t s) e h = absurd (omega arith)
     by (Line t s) e h = absurd (omega arith)
-
-    go : (b : Bool) → zero < cond b (refusedRead (first (formatRefusal f) 12) r) (readGiven r (readAnswer f (handedOf r) piece buf)) .refused
-        → Unchanged r buf (cond b (refusedRead (first (formatRefusal f) 12) r) (readGiven r (readAnswer f (handedOf r) piece buf))) (cond b buf (readLeft f (handedOf r) piece buf))
-    go true h = record { given-back = refl; taken-none = refl; buffer = refl }
-    go false h = by (readAnswer f (handedOf r) piece buf) refl h

@@ -1,1 +1,4 @@
 pub mod Run
+pub mod Demand3
+pub mod Zeros
+pub mod UniqueAcross

@@ -11,5 +11,9 @@
 // `specs/` and `proofs/` have what is claimed across the boundary, over the definitions of those crates:
 //
 //   Records  the reader's record comes back unchanged, so each call is the reader's own; a refused one changes nothing
-//   Run      the caller of demand 3 on the other side of the boundary
-//   Played   demand 3 across the boundary
+//   Run      the caller of demand 3 on the other side of the boundary: its runs, and their moments
+//   Calls, Played, Moments  a call, a run, a moment there is the reader's own
+//   Demand3  demand 3 across the boundary, a to d, as one record
+//   Demand2  demand 2 across the boundary
+//   Zeros    a refused answer there has its number and 0 elsewhere: one list
+//   UniqueAcross  any two results that a contract there allows are the same: one list

@@ -11,7 +11,7 @@ ghost use mathlib.Core.Path.{_≡_};
 ghost use Rattle.blocks.specs.Marking.{noMarks};
 ghost use Rattle.segments.specs.Assembly.{addSegmentAnswer, addSegmentLeft};
 ghost use Rattle.entries.specs.Entries.{mappingAnswer, elementsAnswer};
-ghost use Rattle.calibration.specs.Tables.{albedoAnswer, albedoF64Answer, temperatureAnswer, temperatureF64Answer};
+ghost use Rattle.calibration.specs.Tables.{albedos, temperatures, levelAnswer, levelF64Answer};
 ghost use Rattle.rack_number.specs.Number.{realGiven, floatGiven};
 ghost use Rattle.rack_blocks.specs.Assembly.{marksOf, addGiven, gridGiven, orbitGiven};
 use blocks::marks::Marks;
@@ -146,7 +146,7 @@ pub extern "C" fn hansobrik_albedo(
     channel: u8,
     level: u16,
 ) -> RealAnswer
-    ensures { λ r. ⌜ r ≡ realGiven (albedoAnswer format (marksOf marks) (now (block .entry)) channel level) ⌝ }
+    ensures { λ r. ⌜ r ≡ realGiven (levelAnswer albedos format (marksOf marks) (now (block .entry)) channel level) ⌝ }
 {
     real_given(calibration::albedo(format, Marks { segments: marks }, block, channel, level))
 }
@@ -160,7 +160,7 @@ pub extern "C" fn hansobrik_albedo_f64(
     channel: u8,
     level: u16,
 ) -> FloatAnswer
-    ensures { λ r. ⌜ r ≡ floatGiven (albedoF64Answer format (marksOf marks) (now (block .entry)) channel level) ⌝ }
+    ensures { λ r. ⌜ r ≡ floatGiven (levelF64Answer albedos format (marksOf marks) (now (block .entry)) channel level) ⌝ }
 {
     float_given(calibration::albedo_f64(format, Marks { segments: marks }, block, channel, level))
 }
@@ -174,7 +174,7 @@ pub extern "C" fn hansobrik_temperature(
     channel: u8,
     level: u16,
 ) -> RealAnswer
-    ensures { λ r. ⌜ r ≡ realGiven (temperatureAnswer format (marksOf marks) (now (block .entry)) channel level) ⌝ }
+    ensures { λ r. ⌜ r ≡ realGiven (levelAnswer temperatures format (marksOf marks) (now (block .entry)) channel level) ⌝ }
 {
     real_given(calibration::temperature(format, Marks { segments: marks }, block, channel, level))
 }
@@ -188,7 +188,7 @@ pub extern "C" fn hansobrik_temperature_f64(
     channel: u8,
     level: u16,
 ) -> FloatAnswer
-    ensures { λ r. ⌜ r ≡ floatGiven (temperatureF64Answer format (marksOf marks) (now (block .entry)) channel level) ⌝ }
+    ensures { λ r. ⌜ r ≡ floatGiven (levelF64Answer temperatures format (marksOf marks) (now (block .entry)) channel level) ⌝ }
 {
     float_given(calibration::temperature_f64(
         format,

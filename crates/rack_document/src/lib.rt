@@ -7,13 +7,13 @@
 //
 // A slice crosses as a pointer and a count; slices that are lent to one call must not overlap.
 ghost use mathlib.Core.Path.{_≡_};
-ghost use Rattle.document.specs.Modes.{modeByte, mirrorByte, scanModeAnswer, scannerSelectAnswer};
+ghost use Rattle.document.specs.Modes.{modeName, modeByte, scanModeAnswer, mirrorName, mirrorByte, scannerSelectAnswer};
 ghost use Rattle.document_stamps.specs.Lines.{lineNumbersAnswer};
 ghost use Rattle.document_stamps.specs.Dates.{dateAnswer};
 ghost use Rattle.document.specs.Segments.{subCommutationAnswer};
 ghost use Rattle.document_fields.specs.Fields.{integerFieldAnswer, bcdFieldAnswer, realFieldAnswer, f64FieldAnswer};
 ghost use Rattle.rack_number.specs.Number.{integerGiven, bcdGiven, realGiven, floatGiven};
-ghost use Rattle.rack_document.specs.Documentation.{nameGiven, modeName, mirrorName, scanGiven, scannerGiven, linesGiven, dateGiven, segmentGiven};
+ghost use Rattle.rack_document.specs.Documentation.{nameGiven, scanGiven, scannerGiven, linesGiven, dateGiven, segmentGiven};
 use document::modes::Mirror;
 use document::modes::Scan;
 use document::modes::ScanMode;

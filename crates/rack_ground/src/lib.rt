@@ -1,6 +1,6 @@
 // Formats, the scrambling register and SYNC for C and Rust. Each function hands its numbers and slices on to the call of the
-// same name in `formats` or `scramble` and lays that call's answer out as one struct of numbers: `refused` is 0 or the number
-// of the refusal, and a refused answer has 0 in every other field.
+// same name in `formats`, `scramble` or `sync` and lays that call's answer out as one struct of numbers: `refused` is 0 or the
+// number of the refusal, and a refused answer has 0 in every other field, but for a register, which comes back as it was.
 //
 // The contracts cite `specs/Ground.antt`, one definition for each answer, over the definitions of the calls themselves. No
 // function has a `requires`: nothing checks a caller in C.
@@ -8,11 +8,13 @@
 // A slice crosses as a pointer and a count; slices that are lent to one call must not overlap.
 ghost use mathlib.Core.Path.{_≡_};
 ghost use Rattle.formats.specs.Formats.{formatOf};
+ghost use Rattle.scramble.specs.Step.{stepAnswer, registerLeft};
 ghost use Rattle.sync.specs.Put.{putSyncAnswer, putSyncLeft};
-ghost use Rattle.rack_ground.specs.Ground.{formatGiven, stepGiven, registerLeft, syncGiven};
+ghost use Rattle.rack_ground.specs.Ground.{formatGiven, stepGiven, syncGiven};
 use formats::Format;
 use rack_number::CountAnswer;
 use scramble::Register;
+use scramble::StepBit;
 use sync::SyncPut;
 
 // A format: its number, the bits of the three parts of one line on the wire, and the bytes of them all.
@@ -26,7 +28,7 @@ pub struct FormatAnswer {
     pub bytes: usize,
 }
 
-// One step of the scrambling register: the register after it, and the bit that it gave.
+// One step of the scrambling register: the bit that it gave, and the register after it.
 #[repr(C)]
 pub struct StepAnswer {
     pub refused: u8,
@@ -66,39 +68,45 @@ pub extern "C" fn hansobrik_format(format: u8) -> FormatAnswer
     format_given(Format::of(format))
 }
 
-// The step of a register by value; refused with 12 for a register over fifteen bits.
-#[no_mangle]
-pub extern "C" fn hansobrik_stepped(register: u16) -> StepAnswer
-    ensures { λ r. ⌜ r ≡ stepGiven register ⌝ }
+// Inner. A step's answer as it crosses the boundary, with the register after it.
+fn step_given(a: StepBit, register: u16) -> StepAnswer
+    ensures { λ r. ⌜ r ≡ stepGiven a register ⌝ }
 {
-    if register > scramble::FIFTEEN_ONES {
-        return StepAnswer {
-            refused: refusals::STATE,
+    match a {
+        StepBit::Bit(b) => StepAnswer {
+            refused: 0,
+            bit: b,
+            register: register,
+        },
+        StepBit::Refused(n) => StepAnswer {
+            refused: n,
             bit: 0,
-            register: 0,
-        };
-    }
-    let s = scramble::stepped(Register { bits: register });
-    StepAnswer {
-        refused: 0,
-        bit: s.bit,
-        register: s.next.bits,
+            register: register,
+        },
     }
 }
 
+// The step of a register by value. Refused with 12 for a register over fifteen bits, which comes back as it was.
+#[no_mangle]
+pub extern "C" fn hansobrik_stepped(register: u16) -> StepAnswer
+    ensures { λ r. ⌜ r ≡ stepGiven (stepAnswer register) (registerLeft register) ⌝ }
+{
+    let s = scramble::stepped(Register { bits: register });
+    let answer = s.answer;
+    let next = s.next;
+    step_given(answer, next.bits)
+}
+
 // The step of a register that the caller lends: it changes in place. Refused with 12 for a register over fifteen bits,
-// which then stays as it was. The answer's `register` is that after the step.
+// which stays as it was. The answer's `register` is the lent one after the call.
 #[no_mangle]
 pub extern "C" fn hansobrik_step(register: &mut u16) -> StepAnswer
-    ensures { λ r. ⌜ (r ≡ stepGiven (now (register .entry))) × (now (register .exit) ≡ registerLeft (now (register .entry))) ⌝ }
+    ensures { λ r. ⌜ (r ≡ stepGiven (stepAnswer (now (register .entry))) (registerLeft (now (register .entry)))) × (now (register .exit) ≡ registerLeft (now (register .entry))) ⌝ }
 {
-    let was = *register;
-    let s = hansobrik_stepped(was);
-    if was > scramble::FIFTEEN_ONES {
-        return s;
-    }
-    *register = s.register;
-    s
+    let mut own = Register { bits: *register };
+    let answer = scramble::step(&mut own);
+    *register = own.bits;
+    step_given(answer, own.bits)
 }
 
 // Inner. The bytes of SYNC as they cross the boundary.

@@ -1,18 +1,14 @@
--- Numbers as they cross the boundary: a refused one has its number and 0 elsewhere. Assumes nothing.
+-- Numbers as they cross the boundary: the paper's number and value of each answer, and so 0 for the value of a refused one.
+-- Assumes nothing.
 use Prim.Native.Nat.{ℕ}
-use mathlib.Core.Bool.{false}
-use lib.Ieee as Ieee
 use Rattle.numbers.specs.declared.Integer.{Integer}
-use Rattle.numbers.specs.declared.Integer.the-variants as integer
 use Rattle.numbers.specs.declared.Bcd.{Bcd}
-use Rattle.numbers.specs.declared.Bcd.the-variants as bcd
 use Rattle.numbers.specs.declared.Real.{Real}
-use Rattle.numbers.specs.declared.Real.the-variants as real
-use Rattle.numbers.specs.Floats.{zeroFloat}
 use Rattle.numbers.specs.declared.Float.{Float}
-use Rattle.numbers.specs.declared.Float.the-variants as float
-use Rattle.number_writer.specs.declared.Put.{Put}
-use Rattle.number_writer.specs.declared.Put.the-variants as put
+use Rattle.numbers.specs.Integers.{integerNumber, integerValue}
+use Rattle.numbers.specs.Decimals.{bcdNumber, bcdValue}
+use Rattle.numbers.specs.Reals.{realNumber, realValue}
+use Rattle.numbers.specs.Floats.{floatNumber, floatValue}
 use Rattle.rack_number.specs.declared.CountAnswer.{CountAnswer}
 use Rattle.rack_number.specs.declared.IntegerAnswer.{IntegerAnswer}
 use Rattle.rack_number.specs.declared.BcdAnswer.{BcdAnswer}
@@ -24,22 +20,13 @@ unfoldable pub countGiven : ℕ → ℕ → CountAnswer
 countGiven n count = record { refused = n; count = count }
 
 unfoldable pub integerGiven : Integer → IntegerAnswer
-integerGiven (integer.Is v) = record { refused = 0; value = v }
-integerGiven (integer.Refused n) = record { refused = n; value = 0 }
+integerGiven a = record { refused = integerNumber a; value = integerValue a }
 
 unfoldable pub bcdGiven : Bcd → BcdAnswer
-bcdGiven (bcd.Is v) = record { refused = 0; value = v }
-bcdGiven (bcd.Refused n) = record { refused = n; value = 0 }
+bcdGiven a = record { refused = bcdNumber a; value = bcdValue a }
 
 unfoldable pub realGiven : Real → RealAnswer
-realGiven (real.Is r) = record { refused = 0; negative = r .negative; places = r .places; magnitude = r .magnitude }
-realGiven (real.Refused n) = record { refused = n; negative = false; places = 0; magnitude = 0 }
+realGiven a = record { refused = realNumber a; negative = realValue a .negative; places = realValue a .places; magnitude = realValue a .magnitude }
 
 unfoldable pub floatGiven : Float → FloatAnswer
-floatGiven (float.Is x) = record { refused = 0; value = x }
-floatGiven (float.Refused n) = record { refused = n; value = zeroFloat }
-
--- the paper's number for each answer of a write
-unfoldable pub putNumber : Put → ℕ
-putNumber put.Done = 0
-putNumber (put.Refused n) = n
+floatGiven a = record { refused = floatNumber a; value = floatValue a }

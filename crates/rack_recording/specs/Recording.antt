@@ -9,9 +9,9 @@ use Rattle.formats.specs.Formats.{formatRefusal}
 use Rattle.reader_record.specs.declared.State.{State}
 use Rattle.reader.specs.declared.Answer.{Answer}
 use Rattle.reader.specs.declared.Answer.the-variants.{Refused, More, Line}
-use Rattle.reader.specs.Read.{readAnswer, readLeft}
+use Rattle.reader.specs.Read.{readAnswer, readLeft, refusalOf, takenBy, lineBy}
 use Rattle.writer.specs.declared.Written.{Written}
-use Rattle.writer.specs.declared.Written.the-variants as written
+use Rattle.writer.specs.Wire.{writtenNumber, writtenBytes}
 use Rattle.rack_number.specs.declared.CountAnswer.{CountAnswer}
 use Rattle.rack_number.specs.Number.{countGiven}
 use Rattle.rack_recording.specs.declared.ReaderState.{ReaderState}
@@ -56,11 +56,14 @@ keptOf s = record {
 unfoldable pub refusedRead : ℕ → ReaderState → ReadAnswer
 refusedRead n was = record { refused = n; complete = false; taken = 0; state = was }
 
--- the answer, with the record that was handed in: a refused call gives it back
+-- the record for the next call, with the one that was handed in: a refused call gives it back
+abbrev pub recordAfter : ReaderState → Answer → ReaderState
+recordAfter was (Refused n) = was
+recordAfter was (More t s) = keptOf s
+recordAfter was (Line t s) = keptOf s
+
 unfoldable pub readGiven : ReaderState → Answer → ReadAnswer
-readGiven was (Refused n) = refusedRead n was
-readGiven was (More t s) = record { refused = 0; complete = false; taken = t; state = keptOf s }
-readGiven was (Line t s) = record { refused = 0; complete = true; taken = t; state = keptOf s }
+readGiven was a = record { refused = refusalOf a; complete = lineBy a; taken = takenBy a; state = recordAfter was a }
 
 -- THE CALL: its answer, and the line buffer after it; 1, 12, 2
 unfoldable pub readOf : ℕ → ReaderState → List ℕ → List ℕ → ReadAnswer
@@ -73,5 +76,4 @@ lineLeft f s piece line = cond (ltb 1 (s .«in_line»)) line (readLeft f (handed
 -- ---- write_line
 
 unfoldable pub writtenGiven : Written → CountAnswer
-writtenGiven (written.Put n) = countGiven 0 n
-writtenGiven (written.Refused n) = countGiven n 0
+writtenGiven a = countGiven (writtenNumber a) (writtenBytes a)

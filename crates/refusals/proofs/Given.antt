@@ -1,6 +1,5 @@
 -- A refused answer, and one that is not; said of every kind of answer. Assumes nothing.
 use mathlib.Core.Path.{_≡_, refl, sym, ap, ap₂, _∙_}
-use mathlib.Core.List.{List}
 use Prim.Native.Nat.{ℕ, zero, suc}
 use Rattle.refusals.specs.Refusals.{first, answered, kept}
 
@@ -21,14 +20,8 @@ module _ {A : Type 0} (refuse : ℕ → A) where
   pub given-none : (r k : ℕ) (x y : A) → r ≡ k → r ≡ 0 → y ≡ x → y ≡ answered refuse k x
   given-none r k x y e z h = none y ∙ ap₂ (answered refuse) (sym z ∙ e) h
 
-  -- the paper's number of an answer is the refusal that was given, 0 for none
-  pub given-number : (number : A → ℕ) (k : ℕ) (x : A) → ((j : ℕ) → number (refuse j) ≡ j) → number x ≡ 0 → number (answered refuse k x) ≡ k
-  unfolding answered
-  given-number number zero x own e = e
-  given-number number (suc k) x own e = own (suc k)
-
   -- A REFUSED CALL LEAVES ITS SLICE: what was asked for is no refusal
-  pub answered-kept : (k : ℕ) (x : A) (n : ℕ) (was becomes : List ℕ) → (x ≡ refuse n → ⊥) → answered refuse k x ≡ refuse n → kept k was becomes ≡ was
+  pub answered-kept : {B : Type 0} (k : ℕ) (x : A) (n : ℕ) (was becomes : B) → (x ≡ refuse n → ⊥) → answered refuse k x ≡ refuse n → kept k was becomes ≡ was
   unfolding answered kept
   answered-kept zero x n was becomes h e = absurd (h e)
   answered-kept (suc k) x n was becomes h e = refl

@@ -29,12 +29,12 @@ none-first (suc a) b e = absurd (suc-ne-zero a e)
 pub none-second : (a b : ℕ) → first a b ≡ 0 → b ≡ 0
 none-second a b e = sym (first-none a b (none-first a b e)) ∙ e
 
-pub kept-some : (a : ℕ) (was becomes : List ℕ) → (a ≡ 0 → ⊥) → kept a was becomes ≡ was
+pub kept-some : {A : Type 0} (a : ℕ) (was becomes : A) → (a ≡ 0 → ⊥) → kept a was becomes ≡ was
 unfolding kept
 kept-some zero was becomes h = absurd (h refl)
 kept-some (suc a) was becomes h = refl
 
-pub kept-none : (a : ℕ) (was becomes : List ℕ) → a ≡ 0 → kept a was becomes ≡ becomes
+pub kept-none : {A : Type 0} (a : ℕ) (was becomes : A) → a ≡ 0 → kept a was becomes ≡ becomes
 unfolding kept
 kept-none zero was becomes e = refl
 kept-none (suc a) was becomes e = absurd (suc-ne-zero a e)

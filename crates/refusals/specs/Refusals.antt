@@ -2,7 +2,7 @@
 -- buffers as they were. Assumes nothing.
 use Prim.Native.Nat.{ℕ, zero, suc}
 use mathlib.Core.Bool.{Bool, true, false, _||_}
-use mathlib.Core.List.{List}
+use mathlib.Core.Path.{_≡_}
 use lib.Dec.{ltb}
 
 -- a number where a test applies
@@ -20,10 +20,15 @@ unfoldable pub answered : {A : Type 0} → (ℕ → A) → ℕ → A → A
 answered refuse zero asked = asked
 answered refuse (suc k) asked = refuse (suc k)
 
--- a lent slice once a call has answered: as it was where the call is refused
-unfoldable pub kept : ℕ → List ℕ → List ℕ → List ℕ
+-- what stands once a call has answered: as it was where the call is refused. So a lent slice stays and a record comes back, and a
+-- value of the answer is then 0
+unfoldable pub kept : {A : Type 0} → ℕ → A → A → A
 kept zero was becomes = becomes
 kept (suc a) was becomes = was
+
+-- no refusal has the number 0: number and values alone could not tell such a one from an answer of zeros
+abbrev pub Genuine : {A : Type 0} → (ℕ → A) → A → Type 0
+Genuine refuse r = r ≡ refuse 0 → ⊥
 
 -- 2 or 3: fewer than needed
 unfoldable pub shortOf : ℕ → ℕ → ℕ → ℕ

@@ -1,3 +1,4 @@
 pub mod Steps
 pub mod Wire
 pub mod Turn
+pub mod Settled

@@ -1,3 +1,4 @@
 pub mod Register
 pub mod Sync
+pub mod Step
 pub mod Wire

@@ -1,14 +1,15 @@
 // The scrambling bits, and bits put on the wire and made plain again: one rule for one bit serves the reader and the writer.
 //
-// The contracts cite `specs/Register.antt` (the register and its step) and `specs/Wire.antt` (complementing and scrambling);
-// `specs/Sync.antt` says what SYNC and the tail are. The two steps ask nothing of their caller; the other functions are
-// inner, and say so.
+// The contracts cite `specs/Register.antt` (the register and its bits), `specs/Step.antt` (what a step answers and leaves) and
+// `specs/Wire.antt` (complementing and scrambling); `specs/Sync.antt` says what SYNC and the tail are. The two steps ask nothing
+// of their caller; the other functions are inner, and say so.
 ghost use mathlib.Core.Path.{_≡_};
 ghost use mathlib.Core.List.{_++_};
 ghost use Prim.Native.Nat.{_+_, _*_, _%_, _^_, _≤_, _<_};
 ghost use lib.ListN.{length, take, drop};
 ghost use Rattle.bits.specs.Bits.{bitsOf, part};
 ghost use Rattle.scramble.specs.Register.{newBit, nextRegister, registerAfter};
+ghost use Rattle.scramble.specs.Step.{StepOk, registerLeft};
 ghost use Rattle.scramble.specs.Wire.{plainBit, wireOf};
 
 // The last fifteen scrambling bits, the newest lowest.
@@ -16,10 +17,22 @@ pub struct Register {
     pub bits: u16,
 }
 
-// The register after a step, and the bit that the step gave.
+// The register after a bit, and the bit.
 pub struct Shifted {
     pub next: Register,
     pub bit: u8,
+}
+
+// The answer of a step: the bit that it gave.
+pub enum StepBit {
+    Refused(u8),
+    Bit(u8),
+}
+
+// The register after a step by value, and the step's answer.
+pub struct StepTaken {
+    pub next: Register,
+    pub answer: StepBit,
 }
 
 // Fifteen ones: where SYNC ends, and where the first information bit begins.
@@ -32,8 +45,8 @@ fn low_bit(x: u16) -> u8
     (x & 1) as u8
 }
 
-// The step by value. A bit over the fifteen of the register has no part in it.
-pub fn stepped(r: Register) -> Shifted
+// Inner. The next bit, of any register: a bit over its fifteen has no part in it.
+pub fn shift(r: Register) -> Shifted
     ensures { λ o. ⌜ (o .next .bits ≡ nextRegister (r .bits)) × (o .bit ≡ newBit (r .bits)) ⌝ }
 {
     let b = r.bits;
@@ -46,13 +59,34 @@ pub fn stepped(r: Register) -> Shifted
     }
 }
 
-// The step of a register that the caller lends: it changes in place, and its new bit comes back.
-pub fn step(r: &mut Register) -> u8
-    ensures { λ b. ⌜ (now (r .exit) .bits ≡ nextRegister (now (r .entry) .bits)) × (b ≡ newBit (now (r .entry) .bits)) ⌝ }
+// The step by value. Refused with 12 for a register over fifteen bits, which comes back as it was.
+pub fn stepped(r: Register) -> StepTaken
+    ensures { λ o. ⌜ StepOk (r .bits) (o .answer) × (o .next .bits ≡ registerLeft (r .bits)) ⌝ }
+{
+    if r.bits > FIFTEEN_ONES {
+        let refused = StepBit::Refused(refusals::STATE);
+        return StepTaken {
+            next: r,
+            answer: refused,
+        };
+    }
+    let s = shift(r);
+    let next = s.next;
+    let answer = StepBit::Bit(s.bit);
+    StepTaken {
+        next: next,
+        answer: answer,
+    }
+}
+
+// The step of a register that the caller lends: it changes in place, and its new bit comes back. Refused with 12 for a
+// register over fifteen bits, which stays as it was.
+pub fn step(r: &mut Register) -> StepBit
+    ensures { λ a. ⌜ StepOk (now (r .entry) .bits) a × (now (r .exit) .bits ≡ registerLeft (now (r .entry) .bits)) ⌝ }
 {
     let s = stepped(*r);
     *r = s.next;
-    s.bit
+    s.answer
 }
 
 // Inner. One bit put on the wire or made plain, one rule for both ways: the next scrambling bit and the bit of its group
@@ -62,7 +96,7 @@ pub fn mix_bit(place: usize, r: Register, bit: u8) -> Shifted
     requires { ⌜ bit < 2 ⌝ }
     ensures { λ o. ⌜ (o .next .bits ≡ nextRegister (r .bits)) × (o .bit ≡ plainBit place (r .bits) bit) ⌝ }
 {
-    let t = stepped(r);
+    let t = shift(r);
     let group = ((place >> 3) & 1) as u8;
     let next = t.next;
     Shifted {

@@ -2,4 +2,5 @@ pub mod Back
 pub mod RoundTrip
 pub mod Others
 pub mod Points
+pub mod Carried
 pub mod Rounds

@@ -118,3 +118,22 @@ module _ (start m n : ℕ) (d b : List ℕ) (lm : 1 ≤ m) (hm : m ≤ 12) (ln :
   pub other-pixels : pixelsOf (layoutOf m) (sectorWritten start (layoutOf n) d b) ≡ pixelsOf (layoutOf m) b
   unfolding pixelsOf
   other-pixels = ap (fieldsOf (layoutOf m .width) (layoutOf m .count)) (same-bits (layoutOf m) b (sectorWritten start (layoutOf n) d b) there apart)
+
+-- all of it at once: what is read of sector n is the same of the bits b and c
+pub record Alike (n : ℕ) (b c : List ℕ) : Type 0 where
+  pub answer : (start : ℕ) → answerOf start (layoutOf n) b ≡ answerOf start (layoutOf n) c
+  pub filler : fillerOf (layoutOf n) b ≡ fillerOf (layoutOf n) c
+  pub bytes : dataOf (layoutOf n) b ≡ dataOf (layoutOf n) c
+  pub pixels : pixelsOf (layoutOf n) b ≡ pixelsOf (layoutOf n) c
+
+pub alike-back : {n : ℕ} {b c : List ℕ} → Alike n b c → Alike n c b
+alike-back a = record { answer = λ start. sym (a .answer start); filler = sym (a .filler); bytes = sym (a .bytes); pixels = sym (a .pixels) }
+
+pub others : (start m n : ℕ) (d b : List ℕ) → 1 ≤ m → m ≤ 12 → 1 ≤ n → n ≤ 12 → (m ≡ n → ⊥) → informationBits ≤ length b → length d ≡ layoutOf n .«data_bits»
+    → Alike m (sectorWritten start (layoutOf n) d b) b
+others start m n d b lm hm ln hn other long ld = record {
+  answer = other-answer start m n d b lm hm ln hn other long ld;
+  filler = other-filler start m n d b lm hm ln hn other long ld;
+  bytes = other-data start m n d b lm hm ln hn other long ld;
+  pixels = other-pixels start m n d b lm hm ln hn other long ld;
+}

@@ -1,119 +1,72 @@
--- ROUND TRIPS OF THE CALLS: where `put_data`, `put_pixels` or `put_pixels_wide` answers 0, the sector of the bits that it leaves is
--- accepted, has no filler set, and gives back its data or its pixels; and so `accepted` answers 0 of that line, and `filler` counts
--- none. Assumes nothing.
+-- ROUND TRIPS OF THE CALLS: what a sector of a line holds comes back from it by the calls that read, from every buffer in which
+-- the line stands. Assumes nothing.
 use mathlib.Core.Path.{_≡_, refl, sym, ap, _∙_}
 use mathlib.Core.List.{List, _++_}
-use Prim.Native.Nat.{ℕ, _+_, _^_, _≤_}
-use native.Mathlib.Omega.{arith}
-use lib.ListN.{length, take, drop, length-append, length-drop}
-use Rattle.refusals.specs.Refusals.{first, outsideOf}
-use Rattle.refusals.proofs.Words.{first-none, none-first, kept-none}
+use Prim.Native.Nat.{ℕ, _≤_}
+use lib.Dec.{ltb}
+use lib.ListN.{length, take, drop}
+use borrow.Author.Tests.{le-ltb}
+use Rattle.refusals.specs.Refusals.{first, when, shortOf}
+use Rattle.refusals.proofs.Words.{first-none, kept-none, when-false}
 use Rattle.refusals.proofs.Given.{given-none}
-use Rattle.formats.specs.Formats.{lineBytes, formatRefusal, checkStart}
-use Rattle.bits.specs.Bits.{bitsOf, Below}
-use Rattle.bits.proofs.Bytes.{length-bits}
-use Rattle.sectors.specs.declared.layout.Layout.{Layout}
+use Rattle.formats.specs.Formats.{lineBytes, checkStart}
+use Rattle.bits.specs.Bits.{bitsOf}
 use Rattle.sectors.specs.declared.check.Counted.the-variants.{Set, Refused}
-use Rattle.sectors.specs.Layout.{layoutOf, bytesOf, Sound}
-use Rattle.sectors.specs.Asked.{askedOf, lineRefusal}
+use Rattle.sectors.specs.Layout.{layoutOf, bytesOf}
+use Rattle.sectors.specs.Asked.{lineRefusal}
 use Rattle.sectors.specs.Sector.{answerOf, fillerOf, dataOf, pixelsOf}
-use Rattle.sectors.specs.Calls.{acceptedAnswer, fillerAnswer}
+use Rattle.sectors.specs.Calls.{acceptedAnswer, fillerAnswer, fillerRefusal}
 use Rattle.sectors.proofs.Admitted.{admits}
-use Rattle.sectors.proofs.Table.{sound}
-use Rattle.sector_frame.specs.Written.{sectorOf, sectorWritten, dataWritten, pixelsWritten}
-use Rattle.sector_frame.proofs.Frames.{length-data-written, length-pixels-written}
-use Rattle.sector_writer.specs.Calls.{putDataAnswer, putDataLeft, putPixelsAnswer, putPixelsLeft}
-use Rattle.sector_writer.proofs.Writable.{Writable, data-writable, pixels-writable, pixels-fit}
+use Rattle.pixels.specs.Calls.{valuesRefusal, dataAnswer, dataLeft, pixelsAnswer, pixelsLeft}
 use Rattle.sector_rounds.specs.Cleared.{clearedOf}
-use Rattle.sector_rounds.proofs.Back.{written-accepted, written-filler}
-use Rattle.sector_rounds.proofs.RoundTrip.{data-back, pixels-back}
-use Rattle.sector_rounds.proofs.Others.{length-front}
+use Rattle.sector_rounds.specs.Puts.{Put, Data, Pixels, Wide, Holds, PixelsBack, ValuesBack, ComesBack}
+use Rattle.sector_rounds.proofs.Carried.{lowOf, highOf, one-of, Carries, holds-full, holds-carries}
 
--- ---- the bits that a call left
+-- ---- the calls on a buffer whose bits carry it
 
--- bits in which sector n of a line was written
-pub record Framed (f n : ℕ) (line b : List ℕ) : Type 0 where
-  pub low : 1 ≤ n
-  pub high : n ≤ 12
-  pub full : lineBytes ≤ length line
-  pub long : length b ≡ length (bitsOf line)
-  pub answer : answerOf (checkStart f) (layoutOf n) b ≡ 0
-  pub filler : fillerOf (layoutOf n) b ≡ 0
+module _ (f n : ℕ) (buf : List ℕ) (full : lineBytes ≤ length buf) where
+  admitted-by : (w : Put) → Carries f n w (bitsOf buf) → lineRefusal f (lowOf w) (highOf w) n (length buf) ≡ 0
+  admitted-by w c = admits f (lowOf w) (highOf w) n (length buf) (c .known) (c .low) (c .high) full
 
-room : (n : ℕ) (line : List ℕ) → Sound (layoutOf n) → lineBytes ≤ length line → layoutOf n .start + layoutOf n .bits ≤ length (bitsOf line)
-room n line s long = rw length-bits (omega (arith, s .inside))
+  -- a chain of tests that all pass
+  passes : (lo hi given needed : ℕ) → lineRefusal f lo hi n (length buf) ≡ 0 → needed ≤ given → answerOf (checkStart f) (layoutOf n) (bitsOf buf) ≡ 0
+      → first (lineRefusal f lo hi n (length buf)) (valuesRefusal (checkStart f) (layoutOf n) (bitsOf buf) given needed) ≡ 0
+  unfolding valuesRefusal shortOf
+  passes lo hi given needed a long answer =
+      first-none (lineRefusal f lo hi n (length buf)) _ a ∙ first-none (when (ltb given needed) 3) _ (when-false (ltb given needed) 3 (le-ltb given needed long)) ∙ answer
 
-framed : (f n : ℕ) (line b d : List ℕ) → 1 ≤ n → n ≤ 12 → lineBytes ≤ length line → length d ≡ layoutOf n .«data_bits»
-    → b ≡ sectorWritten (checkStart f) (layoutOf n) d (bitsOf line) → Framed f n line b
-unfolding sectorWritten
-framed f n line b d low high full ld written =
-    let l : Layout = layoutOf n in
-    let s : Sound l = sound n low high in
-    let r = room n line s full in
-    record {
-      low = low;
-      high = high;
-      full = full;
-      long =
-          ap length written ∙ length-append (take (l .start) (bitsOf line) ++ sectorOf (checkStart f) l d) (drop (l .start + l .bits) (bitsOf line))
-          ∙ omega (arith, length-front (checkStart f) l d (bitsOf line) s r ld, length-drop (l .start + l .bits) (bitsOf line), r);
-      answer = ap (answerOf (checkStart f) l) written ∙ written-accepted (checkStart f) l d (bitsOf line) s r ld;
-      filler = ap (fillerOf l) written ∙ written-filler (checkStart f) l d (bitsOf line) s r ld;
-    }
+  pixels-given : (lo hi : ℕ) (ps : List ℕ) → lineRefusal f lo hi n (length buf) ≡ 0 → answerOf (checkStart f) (layoutOf n) (bitsOf buf) ≡ 0
+      → pixelsOf (layoutOf n) (bitsOf buf) ≡ take (layoutOf n .count) ps → PixelsBack lo hi f n ps buf
+  unfolding pixelsAnswer pixelsLeft
+  pixels-given lo hi ps a answer e out long =
+      let none = passes lo hi (length out) (layoutOf n .count) a long answer in
+      (none, kept-none _ out _ none ∙ ap (λ (x : List ℕ). x ++ drop (layoutOf n .count) out) e)
 
--- DATA
-pub data-framed : (f n : ℕ) (line b bytes : List ℕ) → Below (2 ^ 8) bytes → putDataAnswer f (length line) n (length bytes) ≡ 0 → b ≡ putDataLeft f line n bytes
-    → Framed f n line b × (dataOf (layoutOf n) b ≡ clearedOf (layoutOf n) bytes)
-unfolding putDataLeft
-data-framed f n line b bytes small e left =
-    let h : Writable 1 12 n (length line) (length bytes) (bytesOf (layoutOf n)) = data-writable f (length line) n (length bytes) e in
-    let d : List ℕ = dataWritten (layoutOf n) bytes in
-    let written : b ≡ sectorWritten (checkStart f) (layoutOf n) d (bitsOf line) = left ∙ kept-none (putDataAnswer f (length line) n (length bytes)) (bitsOf line) _ e in
-    let s : Sound (layoutOf n) = sound n (h .low) (h .high) in (
-      framed f n line b d (h .low) (h .high) (h .long) (length-data-written (layoutOf n) bytes (h .given-all)) written,
-      ap (dataOf (layoutOf n)) written ∙ data-back (checkStart f) (layoutOf n) (bitsOf line) s (room n line s (h .long)) bytes (h .given-all) small,
-    )
+  data-given : (bytes : List ℕ) → lineRefusal f 1 12 n (length buf) ≡ 0 → answerOf (checkStart f) (layoutOf n) (bitsOf buf) ≡ 0
+      → dataOf (layoutOf n) (bitsOf buf) ≡ clearedOf (layoutOf n) bytes → ValuesBack f n (Data bytes) buf
+  unfolding dataAnswer dataLeft
+  data-given bytes a answer e out long =
+      let none = passes 1 12 (length out) (bytesOf (layoutOf n)) a long answer in
+      (none, kept-none _ out _ none ∙ ap (λ (x : List ℕ). x ++ drop (bytesOf (layoutOf n)) out) e)
 
--- PIXELS, of the sectors from lo to hi, at every width
-pub pixels-framed : (lo hi f n : ℕ) (line b ps : List ℕ) → 1 ≤ lo → hi ≤ 12 → putPixelsAnswer lo hi f (length line) n ps ≡ 0 → b ≡ putPixelsLeft lo hi f line n ps
-    → Framed f n line b × (pixelsOf (layoutOf n) b ≡ take (layoutOf n .count) ps)
-unfolding putPixelsLeft
-pixels-framed lo hi f n line b ps one top e left =
-    let h : Writable lo hi n (length line) (length ps) (layoutOf n .count) = pixels-writable lo hi f (length line) n ps e in
-    let low : 1 ≤ n = omega (arith, h .low) in
-    let high : n ≤ 12 = omega (arith, h .high) in
-    let d : List ℕ = pixelsWritten (layoutOf n) ps in
-    let written : b ≡ sectorWritten (checkStart f) (layoutOf n) d (bitsOf line) = left ∙ kept-none (putPixelsAnswer lo hi f (length line) n ps) (bitsOf line) _ e in
-    let s : Sound (layoutOf n) = sound n low high in (
-      framed f n line b d low high (h .long) (length-pixels-written (layoutOf n) ps s (h .given-all)) written,
-      ap (pixelsOf (layoutOf n)) written ∙ pixels-back (checkStart f) (layoutOf n) (bitsOf line) s (room n line s (h .long)) ps (h .given-all) (pixels-fit lo hi f (length line) n ps e),
-    )
+  values-given : (w : Put) → Carries f n w (bitsOf buf) → ValuesBack f n w buf
+  values-given (Data bytes) c = data-given bytes (admitted-by (Data bytes) c) (c .answer) (c .gives)
+  values-given (Pixels ps) c = pixels-given 2 11 ps (admitted-by (Pixels ps) c) (c .answer) (c .gives)
+  values-given (Wide ps) c = pixels-given 12 12 ps (admitted-by (Wide ps) c) (c .answer) (c .gives)
 
--- ---- the calls on the line that it left
+  -- WHAT THE BITS OF A BUFFER CARRY, the calls give back
+  pub comes-back : (w : Put) → Carries f n w (bitsOf buf) → ComesBack f n w buf
+  unfolding acceptedAnswer fillerAnswer fillerRefusal
+  comes-back w c =
+      let in-table = one-of w n (c .low) (c .high) in
+      let refusal : ℕ = lineRefusal f 1 12 n (length buf) in
+      let none : refusal ≡ 0 = admits f 1 12 n (length buf) (c .known) (in-table .0) (in-table .1) full in
+      record {
+        accepted = first-none refusal (answerOf (checkStart f) (layoutOf n) (bitsOf buf)) none ∙ c .answer;
+        filler = sym (given-none Refused refusal refusal (Set (fillerOf (layoutOf n) (bitsOf buf))) (Set 0) refl none (ap Set (sym (c .filler))));
+        values = values-given w c;
+      }
 
-module _ (f n : ℕ) (line line′ : List ℕ) (known : formatRefusal f ≡ 0) (w : Framed f n line (bitsOf line′)) where
-  opened : lineRefusal f 1 12 n (length line′) ≡ 0
-  opened = admits f 1 12 n (length line′) known (w .low) (w .high) (omega (arith, w .full, w .long, length-bits line, length-bits line′))
-
-  round-accepted : acceptedAnswer f line′ n ≡ 0
-  unfolding acceptedAnswer
-  round-accepted = first-none (lineRefusal f 1 12 n (length line′)) (answerOf (checkStart f) (layoutOf n) (bitsOf line′)) opened ∙ w .answer
-
-  round-filler : fillerAnswer f line′ n ≡ Set 0
-  unfolding fillerAnswer
-  round-filler =
-      sym (given-none Refused (lineRefusal f 1 12 n (length line′)) (lineRefusal f 1 12 n (length line′)) (Set (fillerOf (layoutOf n) (bitsOf line′))) (Set 0) refl opened (ap Set (sym (w .filler))))
-
-pub data-round : (f n : ℕ) (line line′ bytes : List ℕ) → Below (2 ^ 8) bytes → putDataAnswer f (length line) n (length bytes) ≡ 0 → bitsOf line′ ≡ putDataLeft f line n bytes
-    → (acceptedAnswer f line′ n ≡ 0) × (fillerAnswer f line′ n ≡ Set 0) × (dataOf (layoutOf n) (bitsOf line′) ≡ clearedOf (layoutOf n) bytes)
-data-round f n line line′ bytes small e left =
-    let w = data-framed f n line (bitsOf line′) bytes small e left in
-    let known : formatRefusal f ≡ 0 = unfold putDataAnswer askedOf in none-first (formatRefusal f) _ (none-first (first (formatRefusal f) (outsideOf 1 12 n 4)) _ e) in
-    (round-accepted f n line line′ known (w .0), round-filler f n line line′ known (w .0), w .1)
-
-pub pixels-round : (lo hi f n : ℕ) (line line′ ps : List ℕ) → 1 ≤ lo → hi ≤ 12 → putPixelsAnswer lo hi f (length line) n ps ≡ 0 → bitsOf line′ ≡ putPixelsLeft lo hi f line n ps
-    → (acceptedAnswer f line′ n ≡ 0) × (fillerAnswer f line′ n ≡ Set 0) × (pixelsOf (layoutOf n) (bitsOf line′) ≡ take (layoutOf n .count) ps)
-pixels-round lo hi f n line line′ ps one top e left =
-    let w = pixels-framed lo hi f n line (bitsOf line′) ps one top e left in
-    let known : formatRefusal f ≡ 0 = unfold putPixelsAnswer askedOf in none-first (formatRefusal f) _ (none-first (first (formatRefusal f) (outsideOf lo hi n 4)) _ e) in
-    (round-accepted f n line line′ known (w .0), round-filler f n line line′ known (w .0), w .1)
+-- ONE LINE: what a sector of it holds, the calls give back
+pub holds-back : (f n : ℕ) (w : Put) (line : List ℕ) → Holds f n w line → ComesBack f n w line
+holds-back f n w line h = comes-back f n line (holds-full f n w h) w (holds-carries f n w h)

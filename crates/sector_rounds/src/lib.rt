@@ -4,5 +4,6 @@
 //   Back       a written sector is accepted, has no filler bit set, and gives back its data bits
 //   RoundTrip  data bytes and pixels that were written are given back
 //   Others     every other sector stays, and so do the bits past the line
-//   Rounds     the same of the calls: where a call that writes answers 0, those that read answer so
+//   Carried    what was put into a sector last, the line's bits carry, also after calls on other sectors
+//   Rounds     and so it comes back by the calls that read
 //   Points     P3 to P7 of document 01

@@ -4,3 +4,4 @@ pub mod Rows
 pub mod Bounds
 pub mod Answers
 pub mod AtOnce
+pub mod Settled

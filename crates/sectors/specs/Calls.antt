@@ -2,8 +2,9 @@
 -- tested. Assumes nothing.
 use Prim.Native.Nat.{ℕ}
 use mathlib.Core.List.{List}
+use mathlib.Core.Path.{_≡_}
 use lib.ListN.{length, replicate}
-use Rattle.refusals.specs.Refusals.{first, kept, shortOf, answered}
+use Rattle.refusals.specs.Refusals.{first, kept, shortOf, answered, Genuine}
 use Rattle.formats.specs.Formats.{lineBytes, formatRefusal, checkStart}
 use Rattle.bits.specs.Bits.{bitsOf}
 use Rattle.sectors.specs.declared.check.Counted.{Counted}
@@ -28,8 +29,18 @@ abbrev pub countedCount : Counted → ℕ
 countedCount (Set n) = n
 countedCount (Refused r) = 0
 
+unfoldable pub fillerRefusal : ℕ → List ℕ → ℕ → ℕ
+fillerRefusal f line n = lineRefusal f 1 12 n (length line)
+
 unfoldable pub fillerAnswer : ℕ → List ℕ → ℕ → Counted
-fillerAnswer f line n = answered Refused (lineRefusal f 1 12 n (length line)) (Set (fillerOf (layoutOf n) (bitsOf line)))
+fillerAnswer f line n = answered Refused (fillerRefusal f line n) (Set (fillerOf (layoutOf n) (bitsOf line)))
+
+-- THE CONTRACT of `filler`: the number, and the count
+abbrev pub FillerOk : ℕ → List ℕ → ℕ → Counted → Type 0
+FillerOk f line n r =
+    (countedNumber r ≡ fillerRefusal f line n)
+    × (countedCount r ≡ kept (fillerRefusal f line n) 0 (fillerOf (layoutOf n) (bitsOf line)))
+    × Genuine Refused r
 
 -- ---- answers: 1, 2
 unfoldable pub answersRefusal : ℕ → ℕ → ℕ

@@ -6,7 +6,7 @@ ghost use Rattle.formats.specs.Formats.{lineBytes};
 ghost use Rattle.bits.specs.Bits.{bitsOf};
 ghost use Rattle.sectors.specs.Layout.{Sound};
 ghost use Rattle.sectors.specs.Sector.{answerOf, answersOf, fillerOf};
-ghost use Rattle.sectors.specs.Calls.{acceptedAnswer, fillerAnswer, answersRefusal, answersAnswer};
+ghost use Rattle.sectors.specs.Calls.{acceptedAnswer, FillerOk, answersRefusal, answersAnswer};
 use crate::asked::line_refusal;
 use crate::layout::CHECK_BITS;
 use crate::layout::FILLER_BITS;
@@ -71,7 +71,7 @@ pub fn accepted(format: u8, line: &[u8], sector: u8) -> u8
 
 // How many filler bits of a sector are set; refused with 1, 4, 2. A sector that is not accepted is counted too.
 pub fn filler(format: u8, line: &[u8], sector: u8) -> Counted
-    ensures { λ r. ⌜ r ≡ fillerAnswer format (now (line .entry)) sector ⌝ }
+    ensures { λ r. ⌜ FillerOk format (now (line .entry)) sector r ⌝ }
 {
     let refused = line_refusal(format, 1, 12, sector, line.len());
     if refused != 0 {

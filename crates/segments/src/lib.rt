@@ -1,7 +1,7 @@
 // The segments of a block, as the lines bring them, in any order and each as often as it comes, put into an assembly.
 //
-// The contracts cite `specs/Assembly.antt`. Each is an equation for the answer and for every lent byte, for every input;
-// refusals stand in the paper's order. That a finished block is its segments, whatever order they came in, is in
+// The contracts cite `specs/Assembly.antt`: `AddSegmentOk` gives the number of the refusal and the values of the answer,
+// `addSegmentLeft` every lent byte, for every input; refusals stand in the paper's order. That a finished block is its segments, whatever order they came in, is in
 // `assemblies`.
 //
 // No public function has a `requires`. A buffer may be longer than its block.
@@ -10,7 +10,7 @@ ghost use Prim.Native.Nat.{_≤_};
 ghost use lib.ListN.{length};
 ghost use Rattle.formats.specs.Formats.{lineBytes};
 ghost use Rattle.blocks.specs.Blocks.{Sound};
-ghost use Rattle.segments.specs.Assembly.{placeAnswer, placeLeft, lentRefusal, carriedAnswer, addSegmentAnswer, addSegmentLeft};
+ghost use Rattle.segments.specs.Assembly.{placeAnswer, placeLeft, lentRefusal, CarriedOk, AddSegmentOk, addSegmentLeft};
 use blocks::block::Block;
 use blocks::block::SEGMENTS;
 use blocks::block::block_of;
@@ -84,7 +84,7 @@ fn lent_refusal(format: u8, marks: Marks, number: u8, length: usize, given: usiz
 
 // Which segment a line carries, or what refuses it: 1, 12, 4, 2, 5, 6, 7.
 fn carried(format: u8, marks: Marks, line: &[u8], number: u8, given: usize) -> SubCommutation
-    ensures { λ r. ⌜ r ≡ carriedAnswer format marks (now (line .entry)) number given ⌝ }
+    ensures { λ r. ⌜ CarriedOk format marks (now (line .entry)) number given r ⌝ }
 {
     let refused = lent_refusal(format, marks, number, line.len(), given);
     if refused != 0 {
@@ -97,7 +97,7 @@ fn carried(format: u8, marks: Marks, line: &[u8], number: u8, given: usize) -> S
 // segment times a 25th of the size, and marked; an equal later copy changes nothing. Refused with 1, 12, 4, 2, 5, 6, 7, 8,
 // and then the block stays as it was. Bytes behind the block's size are kept.
 pub fn add_segment(format: u8, marks: Marks, line: &[u8], number: u8, block: &mut [u8]) -> Added
-    ensures { λ r. ⌜ (r ≡ addSegmentAnswer format marks (now (line .entry)) number (now (block .entry))) × (now (block .exit) ≡ addSegmentLeft format marks (now (line .entry)) number (now (block .entry))) ⌝ }
+    ensures { λ r. ⌜ AddSegmentOk format marks (now (line .entry)) number (now (block .entry)) r × (now (block .exit) ≡ addSegmentLeft format marks (now (line .entry)) number (now (block .entry))) ⌝ }
 {
     match carried(format, marks, line, number, block.len()) {
         SubCommutation::Is { segment, repeat: _ } => place(

@@ -11,9 +11,9 @@ use borrow.Author.Tests.{le-ltb}
 use Rattle.refusals.specs.Refusals.{outside}
 use Rattle.numbers.specs.declared.Bcd.{Bcd}
 use Rattle.numbers.specs.declared.Bcd.the-variants.{Is, Refused}
-use Rattle.numbers.specs.Decimals.{decimalOf, digitsIn, readBcdAnswer}
+use Rattle.numbers.specs.Decimals.{bcdValue, decimalOf, digitsIn, readBcdAnswer}
 use Rattle.numbers.proofs.Answers.{bcd-if, bcd-lt}
-use Rattle.stamps.specs.Decimals.{bcdValue, bcdIn, bcdAt}
+use Rattle.stamps.specs.Decimals.{bcdIn, bcdAt}
 
 pub bcd-digits : (bytes : List ℕ) (at n : ℕ) → 1 ≤ n → n ≤ 6 → at + n ≤ length bytes → bcdIn bytes at n ≡ decimalOf (digitsIn n (drop at bytes))
 unfolding bcdIn outside

@@ -19,7 +19,7 @@ use Rattle.numbers.specs.declared.Bcd.{Bcd}
 use Rattle.numbers.specs.declared.Bcd.the-variants.{Is, Refused}
 use Rattle.numbers.specs.Decimals.{someOver9, decimalOf, digitsIn}
 use Rattle.numbers.proofs.Nines.{none-over, over-none}
-use Rattle.stamps.specs.Decimals.{bcdNumber, partRefusal}
+use Rattle.stamps.specs.Decimals.{partNumber, partRefusal}
 use Rattle.stamps.specs.Dates.{dayRefusal, timeRefusal, dateInRefusal}
 use Rattle.stamps.specs.Stamps.{countBytes, dateBytes, stampRefusal, before}
 use Rattle.stamps.proofs.Digits.{bcd-digits}
@@ -56,7 +56,7 @@ cut n k s l = sym (front n (take k s) (drop k s) l) ∙ ap (digitsIn n) (take-ap
 
 -- ---- a part that is not refused
 
-clean : (low high : ℕ) (t : Bool) (x : Bcd) → bcdNumber low high (answered Refused (when t 7) x) ≡ 0 → t ≡ false
+clean : (low high : ℕ) (t : Bool) (x : Bcd) → partNumber low high (answered Refused (when t 7) x) ≡ 0 → t ≡ false
 unfolding answered when
 clean low high true x e = absurd (omega arith)
 clean low high false x e = refl
@@ -65,7 +65,7 @@ part-clean : (s : List ℕ) (at n low high : ℕ) → 1 ≤ n → n ≤ 6 → at
 unfolding partRefusal decimalOf
 part-clean s at n low high one six there e =
     let ds : List ℕ = digitsIn n (drop at s) in
-    over-none ds (clean low high (someOver9 ds) (Is (inBase 10 ds)) (ap (bcdNumber low high) (sym (bcd-digits s at n one six there)) ∙ e))
+    over-none ds (clean low high (someOver9 ds) (Is (inBase 10 ds)) (ap (partNumber low high) (sym (bcd-digits s at n one six there)) ∙ e))
 
 date-clean : (r : List ℕ) → 8 ≤ length r → dateInRefusal r ≡ 0 → Below 10 (digitsIn 8 r)
 unfolding dateInRefusal dayRefusal timeRefusal

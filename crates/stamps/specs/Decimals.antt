@@ -5,17 +5,12 @@ use lib.ListN.{drop}
 use Rattle.refusals.specs.Refusals.{outsideOf}
 use Rattle.numbers.specs.declared.Bcd.{Bcd}
 use Rattle.numbers.specs.declared.Bcd.the-variants.{Is, Refused}
-use Rattle.numbers.specs.Decimals.{readBcdAnswer}
+use Rattle.numbers.specs.Decimals.{bcdValue, readBcdAnswer}
 
--- the paper's value for each answer; a refusal has 0
-abbrev pub bcdValue : Bcd → ℕ
-bcdValue (Is v) = v
-bcdValue (Refused k) = 0
-
--- and its number, where the value has to be one from low to high: 7 else
-abbrev pub bcdNumber : ℕ → ℕ → Bcd → ℕ
-bcdNumber low high (Is v) = outsideOf low high v 7
-bcdNumber low high (Refused k) = k
+-- the paper's number for each answer where the value has to be one from low to high: 7 else
+abbrev pub partNumber : ℕ → ℕ → Bcd → ℕ
+partNumber low high (Is v) = outsideOf low high v 7
+partNumber low high (Refused k) = k
 
 -- BCD*n at a place
 unfoldable pub bcdIn : List ℕ → ℕ → ℕ → Bcd
@@ -26,4 +21,4 @@ bcdAt bytes at n = bcdValue (bcdIn bytes at n)
 
 -- 7: a digit over 9, or a number that is not one from low to high
 unfoldable pub partRefusal : List ℕ → ℕ → ℕ → ℕ → ℕ → ℕ
-partRefusal bytes at n low high = bcdNumber low high (bcdIn bytes at n)
+partRefusal bytes at n low high = partNumber low high (bcdIn bytes at n)

@@ -1,2 +1,4 @@
 pub mod Opening
+pub mod Settled
 pub mod Putting
+pub mod Lending

@@ -10,7 +10,7 @@ use Rattle.bits.proofs.Bytes.{bits-drop}
 use Rattle.bits.proofs.Fields.{bytes-front}
 use Rattle.refusals.specs.Refusals.{shortOf}
 use Rattle.refusals.proofs.Words.{first-none, kept-some, kept-none, refused}
-use Rattle.refusals.proofs.Given.{given-some, given-none}
+use Rattle.refusals.proofs.Says.{says-some, says-none}
 use Rattle.formats.specs.Formats.{formatOf, formatRefusal}
 use Rattle.formats.specs.declared.Format.{Format}
 use Rattle.formats.specs.declared.FormatAnswer.the-variants.{Is, Refused}
@@ -18,19 +18,20 @@ use Rattle.formats.proofs.Which.{parts, is-known, is-unknown, named-by, some-nu
 use Rattle.scramble.specs.Register.{scramblingBits}
 use Rattle.scramble.specs.Sync.{SYNC}
 use Rattle.scramble.proofs.Steps.{length-scrambling, scrambling-below}
-use Rattle.sync.specs.Put.{beforeSync, putSyncRefusal, putSyncAnswer, putSyncLeft}
+use Rattle.sync.specs.Put.{beforeSync, putSyncRefusal, PutSyncOk, putSyncLeft}
 use Rattle.sync.specs.declared.SyncPut.{SyncPut}
 use Rattle.sync.specs.declared.SyncPut.the-variants as put
 use Rattle.sync.proofs.Opening.{sync-from}
+use Rattle.sync.proofs.Settled.{a-sync}
 
 module _ (n : ℕ) (out : List ℕ) where
   abbrev Gives : SyncPut → List ℕ → Type 0
-  Gives r after = (r ≡ putSyncAnswer n out) × (after ≡ putSyncLeft n out)
+  Gives r after = PutSyncOk n out r × (after ≡ putSyncLeft n out)
 
   -- refused with r
   turned-away : (r : ℕ) → r ≡ putSyncRefusal n (length out) → (r ≡ 0 → ⊥) → Gives (put.Refused r) out
-  unfolding putSyncAnswer putSyncLeft
-  turned-away r e h = (given-some put.Refused r (putSyncRefusal n (length out)) _ e h, sym (kept-some (putSyncRefusal n (length out)) out _ (λ z. h (e ∙ z))))
+  unfolding putSyncLeft
+  turned-away r e h = (says-some a-sync r (putSyncRefusal n (length out)) _ e h, sym (kept-some (putSyncRefusal n (length out)) out _ (λ z. h (e ∙ z))))
 
   pub sync-refused : (k : ℕ) → formatOf n ≡ Refused k → Gives (put.Refused k) out
   unfolding putSyncRefusal
@@ -47,7 +48,7 @@ module _ (n : ℕ) (out : List ℕ) where
     pub sync-done : (reg : ℕ) (after : List ℕ) → r ≡ 0 → Below 256 out → Below 256 after
         → reg ≡ beforeSync (f .sync) → bitsOf after ≡ take 0 (bitsOf out) ++ scramblingBits (f .sync) reg ++ drop (0 + f .sync) (bitsOf out)
         → Gives (put.Put (f .sync / 8)) after
-    unfolding putSyncAnswer putSyncLeft SYNC
+    unfolding putSyncLeft SYNC
     sync-done reg after z b b′ at w =
         let named = sym (named-by n f e) in
         let whole : f .sync ≡ f .sync / 8 * 8 = parts n f e .sync-whole in
@@ -56,7 +57,7 @@ module _ (n : ℕ) (out : List ℕ) where
         let bytes : after ≡ fieldsOf 8 (f .sync / 8) (SYNC (f .sync)) ++ drop (f .sync / 8) out =
         bytes-front (f .sync / 8) after (SYNC (f .sync)) (drop (f .sync / 8) out) b′ (below-drop 256 (f .sync / 8) out b)
         (length-scrambling (f .sync) _ ∙ whole) (scrambling-below (f .sync) _) (w ∙ ap₂ (λ (x y : List ℕ). x ++ y) (ap (scramblingBits (f .sync)) at ∙ sync-from n f e) rest) in (
-          given-none put.Refused r (putSyncRefusal n (length out)) _ _ number z (ap (λ (g : Format). put.Put (g .sync / 8)) named),
+          says-none a-sync r (putSyncRefusal n (length out)) _ _ number z (ap (λ (g : Format). g .sync / 8) named),
           bytes ∙ ap (λ (g : Format). fieldsOf 8 (g .sync / 8) (SYNC (g .sync)) ++ drop (g .sync / 8) out) named
               ∙ sym (kept-none (putSyncRefusal n (length out)) out _ (sym number ∙ z)),
         )

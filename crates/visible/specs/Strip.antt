@@ -2,8 +2,9 @@
 -- was, and four answers say which. Assumes nothing.
 use Prim.Native.Nat.{ℕ, _*_, _-_}
 use mathlib.Core.List.{List, _++_}
+use mathlib.Core.Path.{_≡_}
 use lib.ListN.{length, take, drop}
-use Rattle.refusals.specs.Refusals.{first, answered, kept, shortOf}
+use Rattle.refusals.specs.Refusals.{first, answered, kept, shortOf, Genuine}
 use Rattle.formats.specs.Formats.{lineBytes, formatRefusal, checkStart}
 use Rattle.bits.specs.Bits.{bitsOf}
 use Rattle.sectors.specs.Layout.{layoutOf}
@@ -44,14 +45,24 @@ stripOf start b s =
 unfoldable pub stripRefusal : ℕ → ℕ → ℕ → ℕ
 stripRefusal f len given = first (formatRefusal f) (first (shortOf len lineBytes 2) (shortOf given stripBytes 3))
 
--- the paper's number for each answer; a refusal has 0 for all four
+-- the paper's number and the four answers for each answer; a refusal has 0 for all four
+abbrev pub noAnswers : PartAnswers
+noAnswers = record { one = 0; two = 0; three = 0; four = 0 }
+
 abbrev pub strippedNumber : Stripped → ℕ
 strippedNumber (Parts a) = 0
 strippedNumber (Refused r) = r
 
 abbrev pub strippedAnswers : Stripped → PartAnswers
 strippedAnswers (Parts a) = a
-strippedAnswers (Refused r) = record { one = 0; two = 0; three = 0; four = 0 }
+strippedAnswers (Refused r) = noAnswers
+
+-- THE CONTRACT of `strip`: the number, and the four answers
+abbrev pub StripOk : ℕ → List ℕ → List ℕ → Stripped → Type 0
+StripOk f line s r =
+    (strippedNumber r ≡ stripRefusal f (length line) (length s))
+    × (strippedAnswers r ≡ kept (stripRefusal f (length line) (length s)) noAnswers (partAnswersOf (checkStart f) (bitsOf line)))
+    × Genuine Refused r
 
 unfoldable pub stripAnswer : ℕ → List ℕ → List ℕ → Stripped
 stripAnswer f line s = answered Refused (stripRefusal f (length line) (length s)) (Parts (partAnswersOf (checkStart f) (bitsOf line)))

@@ -6,7 +6,7 @@ ghost use Rattle.formats.specs.Formats.{lineBytes};
 ghost use Rattle.bits.specs.Bits.{bitsOf};
 ghost use Rattle.sectors.specs.Layout.{layoutOf};
 ghost use Rattle.sectors.specs.Sector.{answerOf};
-ghost use Rattle.visible.specs.Strip.{partBytes, stripBytes, visibleOf, lentOf, partAnswersOf, stripOf, stripRefusal, stripAnswer, stripLeft};
+ghost use Rattle.visible.specs.Strip.{partBytes, stripBytes, visibleOf, lentOf, partAnswersOf, stripOf, stripRefusal, StripOk, stripLeft};
 use formats::Format;
 use formats::check_start;
 use formats::format_refusal;
@@ -91,7 +91,7 @@ fn strip_refusal(format: u8, length: usize, given: usize) -> u8
 // sector that is not accepted refuses nothing: its own answer says 5 or 6, and its own part stays. What lies behind the
 // strip's 36,656 bytes is kept.
 pub fn strip(format: u8, line: &[u8], strip: &mut [u8]) -> Stripped
-    ensures { λ r. ⌜ (r ≡ stripAnswer format (now (line .entry)) (now (strip .entry))) × (now (strip .exit) ≡ stripLeft format (now (line .entry)) (now (strip .entry))) ⌝ }
+    ensures { λ r. ⌜ StripOk format (now (line .entry)) (now (strip .entry)) r × (now (strip .exit) ≡ stripLeft format (now (line .entry)) (now (strip .entry))) ⌝ }
 {
     let refused = strip_refusal(format, line.len(), strip.len());
     if refused != 0 {

@@ -2,14 +2,15 @@
 -- register and every starting place; and a line made plain bit by bit. Assumes nothing.
 use mathlib.Core.Path.{_≡_, refl, sym, ap, ap₂, _∙_}
 use mathlib.Core.List.{List, [], _∷_, _++_}
-use Prim.Native.Nat.{ℕ, suc, _+_, _/_, _%_}
+use Prim.Native.Nat.{ℕ, zero, suc, _+_, _/_, _%_}
 use native.Mathlib.Nat.{add-zero, add-suc, suc-add, zero-add}
 use native.Mathlib.Omega.{arith}
-use lib.ListN.{length}
+use lib.ListN.{length, replicate}
 use Rattle.bits.specs.Bits.{Below}
-use Rattle.scramble.specs.Register.{newBit, nextRegister, registerAfter}
+use Rattle.scramble.specs.Register.{newBit, nextRegister, registerAfter, scramblingBits}
 use Rattle.scramble.specs.Sync.{fifteenOnes}
 use Rattle.scramble.specs.Wire.{complemented, scrambled, plainBit, wireOf, plainOf}
+use Rattle.scramble.proofs.Steps.{newBit-lt}
 use Rattle.wire.specs.Parts.{informationOf, lineOf}
 
 -- making plain is putting on the wire
@@ -33,6 +34,19 @@ wire-append i r (x ∷ xs) ys =
     ap (λ (l : List ℕ). ((x + i / 8) % 2 + newBit r) % 2 ∷ l)
     (wire-append (suc i) (nextRegister r) xs ys
     ∙ ap (λ (n : ℕ). wireOf (suc i) (nextRegister r) xs ++ wireOf n (registerAfter (length xs) (nextRegister r)) ys) (suc-add i (length xs) ∙ sym (add-suc i (length xs))))
+
+-- the same of scrambling alone; zeros scrambled are the scrambling bits
+pub scrambled-append : (r : ℕ) (xs ys : List ℕ) → scrambled r (xs ++ ys) ≡ scrambled r xs ++ scrambled (registerAfter (length xs) r) ys
+unfolding scrambled registerAfter
+scrambled-append r [] ys = refl
+scrambled-append r (x ∷ xs) ys = ap (λ (l : List ℕ). (x + newBit r) % 2 ∷ l) (scrambled-append (nextRegister r) xs ys)
+
+pub scrambled-zeros : (n r : ℕ) → scrambled r (replicate n 0) ≡ scramblingBits n r
+unfolding scrambled scramblingBits
+scrambled-zeros zero r = refl
+scrambled-zeros (suc n) r =
+    let same : (0 + newBit r) % 2 ≡ newBit r = omega (arith, newBit-lt r) in
+    ap₂ (λ (x : ℕ) (l : List ℕ). x ∷ l) same (scrambled-zeros n (nextRegister r))
 
 -- THE WAY BACK
 pub plain-back : (i r : ℕ) (bs : List ℕ) → Below 2 bs → plainOf i r (wireOf i r bs) ≡ bs

@@ -1,2 +1,4 @@
 pub mod Laying
+pub mod OneRun
+pub mod Settled
 pub mod Ways

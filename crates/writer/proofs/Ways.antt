@@ -11,7 +11,7 @@ use Rattle.bits.proofs.Bytes.{length-bits, bits-drop}
 use Rattle.bits.proofs.Fields.{bytes-front}
 use Rattle.refusals.specs.Refusals.{first, shortOf}
 use Rattle.refusals.proofs.Words.{first-none, none-first, none-second, enough, kept-some, kept-none, refused}
-use Rattle.refusals.proofs.Given.{given-some, given-none}
+use Rattle.refusals.proofs.Says.{says-some, says-none}
 use Rattle.formats.specs.Formats.{formatOf, formatRefusal, informationBits, lineBytes}
 use Rattle.formats.specs.declared.Format.{Format}
 use Rattle.formats.specs.declared.FormatAnswer.the-variants.{Is, Refused}
@@ -22,10 +22,11 @@ use Rattle.scramble.specs.Wire.{wireOf}
 use Rattle.scramble.proofs.Steps.{length-scrambling, scrambling-below}
 use Rattle.scramble.proofs.Wire.{length-wire}
 use Rattle.wire.proofs.Wire.{wire-below}
-use Rattle.writer.specs.Wire.{onWire, wireBytes, writeLineRefusal, writeLineAnswer, writeLineLeft}
+use Rattle.writer.specs.Wire.{onWire, wireBytes, writeLineRefusal, WriteLineOk, writeLineLeft}
 use Rattle.writer.specs.declared.Written.{Written}
 use Rattle.writer.specs.declared.Written.the-variants as written
 use Rattle.writer.proofs.Laying.{on-wire-is}
+use Rattle.writer.proofs.Settled as settled
 
 -- ---- one line on the wire is a whole number of bytes
 
@@ -66,15 +67,15 @@ wire-whole n f line e h =
 
 module _ (n : ℕ) (line out : List ℕ) where
   abbrev Gives : Written → List ℕ → Type 0
-  Gives r after = (r ≡ writeLineAnswer n line out) × (after ≡ writeLineLeft n line out)
+  Gives r after = WriteLineOk n line out r × (after ≡ writeLineLeft n line out)
 
   abbrev refusal : ℕ
   refusal = writeLineRefusal n (length line) (length out)
 
   -- refused with r
   turned-away : (r : ℕ) → r ≡ refusal → (r ≡ 0 → ⊥) → Gives (written.Refused r) out
-  unfolding writeLineAnswer writeLineLeft
-  turned-away r e h = (given-some written.Refused r refusal _ e h, sym (kept-some refusal out _ (λ z. h (e ∙ z))))
+  unfolding writeLineLeft
+  turned-away r e h = (says-some settled.written r refusal _ e h, sym (kept-some refusal out _ (λ z. h (e ∙ z))))
 
   pub write-unknown : (k : ℕ) → formatOf n ≡ Refused k → Gives (written.Refused k) out
   unfolding writeLineRefusal
@@ -103,13 +104,13 @@ module _ (n : ℕ) (line out : List ℕ) where
 
       pub write-done : (after : List ℕ) → Below 256 out → Below 256 after
           → bitsOf after ≡ onWire f (bitsOf (take lineBytes line)) ++ drop (f .bytes * 8) (bitsOf out) → Gives (written.Put (f .bytes)) after
-      unfolding writeLineAnswer writeLineLeft wireBytes
+      unfolding writeLineLeft wireBytes
       write-done after b b′ w =
           let named = sym (named-by n f e) in
           let bits : List ℕ = onWire f (bitsOf (take lineBytes line)) in
           let bytes : after ≡ wireBytes f line ++ drop (f .bytes) out =
           bytes-front (f .bytes) after bits (drop (f .bytes) out) b′ (below-drop 256 (f .bytes) out b) (wire-whole n f line e line-whole) (on-wire-below f _)
           (w ∙ ap (λ (l : List ℕ). bits ++ l) (bits-drop out (f .bytes))) in (
-            given-none written.Refused r refusal _ _ number z (ap (λ (g : Format). written.Put (g .bytes)) named),
+            says-none settled.written r refusal _ _ number z (ap (λ (g : Format). g .bytes) named),
             bytes ∙ ap (λ (g : Format). wireBytes g line ++ drop (g .bytes) out) named ∙ sym (kept-none refusal out _ (sym number ∙ z)),
           )

@@ -4,7 +4,7 @@ use mathlib.Core.Path.{_≡_}
 use Prim.Native.Nat.{ℕ, _≤_}
 use lib.ListN.{length, take, drop}
 use Rattle.bits.specs.Bits.{bitsOf, fieldsOf}
-use Rattle.refusals.specs.Refusals.{first, shortOf, answered, kept}
+use Rattle.refusals.specs.Refusals.{first, shortOf, answered, kept, Genuine}
 use Rattle.formats.specs.Formats.{formatOf, formatRefusal, informationBits, lineBytes, namedBy}
 use Rattle.formats.specs.declared.Format.{Format}
 use Rattle.formats.specs.declared.FormatAnswer.the-variants.{Is}
@@ -25,9 +25,24 @@ wireBytes f line = fieldsOf 8 (f .bytes) (onWire f (bitsOf (take lineBytes line)
 unfoldable pub writeLineRefusal : ℕ → ℕ → ℕ → ℕ
 writeLineRefusal format lineLength given = first (formatRefusal format) (first (shortOf lineLength lineBytes 2) (shortOf given (namedBy format .bytes) 3))
 
--- the bytes of the line on the wire
+-- the paper's number and bytes for each answer
+abbrev pub writtenNumber : Written → ℕ
+writtenNumber (written.Put n) = 0
+writtenNumber (written.Refused r) = r
+
+abbrev pub writtenBytes : Written → ℕ
+writtenBytes (written.Put n) = n
+writtenBytes (written.Refused r) = 0
+
 unfoldable pub writeLineAnswer : ℕ → List ℕ → List ℕ → Written
 writeLineAnswer format line out = answered written.Refused (writeLineRefusal format (length line) (length out)) (written.Put (namedBy format .bytes))
+
+-- THE CONTRACT of `write_line`: the number, and the bytes of the line on the wire
+abbrev pub WriteLineOk : ℕ → List ℕ → List ℕ → Written → Type 0
+WriteLineOk format line out r =
+    (writtenNumber r ≡ writeLineRefusal format (length line) (length out))
+    × (writtenBytes r ≡ kept (writeLineRefusal format (length line) (length out)) 0 (namedBy format .bytes))
+    × Genuine written.Refused r
 
 -- the line on the wire at the front, and the bytes past it as they were
 unfoldable pub writeLineLeft : ℕ → List ℕ → List ℕ → List ℕ

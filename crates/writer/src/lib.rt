@@ -1,14 +1,14 @@
 // The writer: one plain line to the wire, as SYNC, the 44,356 bytes of the line complemented and scrambled without a
 // restart, and in format 2 the dummy.
 //
-// The contract cites `specs/Wire.antt`: `onWire` is one line on the wire, and `writeLineAnswer` and `writeLineLeft` are what the
+// The contract cites `specs/Wire.antt`: `onWire` is one line on the wire, and `WriteLineOk` and `writeLineLeft` say what the
 // call answers and leaves in its output, for every input. `write_line` has no `requires`.
 ghost use mathlib.Core.Path.{_≡_};
 ghost use mathlib.Core.List.{_++_};
 ghost use Prim.Native.Nat.{_*_};
 ghost use lib.ListN.{take, drop};
 ghost use Rattle.bits.specs.Bits.{bitsOf};
-ghost use Rattle.writer.specs.Wire.{onWire, writeLineAnswer, writeLineLeft, CanPut};
+ghost use Rattle.writer.specs.Wire.{onWire, WriteLineOk, writeLineLeft, CanPut};
 use formats::Format;
 use formats::FormatAnswer;
 use scramble::Register;
@@ -41,7 +41,7 @@ fn put_line(f: Format, line: &[u8], out: &mut [u8])
 // One plain line, the first 44,356 bytes of line, put on the wire at the front of out: 45,606 bytes in format 1 and 49,500
 // in format 2; the bytes of out past them stay. Refused with 1 for the format, 2 for a short line, 3 for a short output.
 pub fn write_line(format: u8, line: &[u8], out: &mut [u8]) -> Written
-    ensures { λ r. ⌜ (r ≡ writeLineAnswer format (now (line .entry)) (now (out .entry))) × (now (out .exit) ≡ writeLineLeft format (now (line .entry)) (now (out .entry))) ⌝ }
+    ensures { λ r. ⌜ WriteLineOk format (now (line .entry)) (now (out .entry)) r × (now (out .exit) ≡ writeLineLeft format (now (line .entry)) (now (out .entry))) ⌝ }
 {
     match Format::of(format) {
         FormatAnswer::Refused(number) => Written::Refused(number),

@@ -3,7 +3,7 @@
 //! Every way to make a call, through Rust, through C or by the second decoder,
 //! is a function of one type, from a [`Call`] to its [`Outcome`].
 
-use crate::rows::{Name, Row, ROWS};
+use crate::rows::{Name, Row, REGISTER_LENT, ROWS};
 
 /// A buffer that is lent to a call.
 #[derive(Clone, Debug, PartialEq, Eq)]
@@ -94,9 +94,20 @@ impl Call {
         let row = self.row();
         let mut fields = vec![0; row.fields.len()];
         fields[0] = u64::from(number);
-        let kept = &self.numbers[row.kept.number..][..row.kept.count];
+        let kept = &self.handed()[row.kept.number..][..row.kept.count];
         fields[row.kept.field..][..row.kept.count].copy_from_slice(kept);
         fields
+    }
+
+    /// The numbers handed in, and behind them a register that is lent.
+    fn handed(&self) -> Vec<u64> {
+        let mut numbers = self.numbers.clone();
+        for (buffer, part) in self.lent.iter().zip(self.row().lent) {
+            if *part == REGISTER_LENT {
+                numbers.push(buffer.words()[0].into());
+            }
+        }
+        numbers
     }
 }
 

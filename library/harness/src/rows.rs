@@ -2,6 +2,7 @@
 //! to the header's own text.
 
 pub use crate::names::Name;
+pub use crate::shapes::REGISTER_LENT;
 use crate::shapes::*;
 
 /// How many calls there are.
@@ -21,12 +22,13 @@ pub struct Part {
 }
 
 /// What comes back as it was handed in where a call is refused: the reader's
-/// record, an assembly's marks.
+/// record, a register, an assembly's marks.
 #[derive(Clone, Copy, Debug, PartialEq, Eq)]
 pub struct Kept {
     /// The first of them among the answer's fields, ...
     pub field: usize,
-    /// ... and among the numbers handed in.
+    /// ... and among the numbers handed in, a register that is lent behind
+    /// them.
     pub number: usize,
     pub count: usize,
 }
@@ -56,6 +58,7 @@ const fn row(
     refusals: Refusals,
 ) -> Row {
     let kept = match name {
+        Name::Stepped | Name::Step => KEEPS_REGISTER,
         Name::Read => KEEPS_RECORD,
         Name::AddSegment => KEEPS_MARKS,
         _ => KEEPS_NOTHING,

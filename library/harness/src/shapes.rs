@@ -151,6 +151,11 @@ pub const KEEPS_NOTHING: Kept = Kept {
     number: 0,
     count: 0,
 };
+pub const KEEPS_REGISTER: Kept = Kept {
+    field: 2,
+    number: 0,
+    count: 1,
+};
 pub const KEEPS_RECORD: Kept = Kept {
     field: 3,
     number: 1,

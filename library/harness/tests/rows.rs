@@ -3,7 +3,7 @@
 
 use std::collections::HashMap;
 
-use harness::rows::{Part, Row, ORDER, ROWS};
+use harness::rows::{Part, Row, ORDER, REGISTER_LENT, ROWS};
 
 const HEADER: &str = include_str!("../../hansobrik.h");
 
@@ -157,8 +157,12 @@ fn fields_are_those_of_the_answers() {
         };
         assert_eq!(fields, row.fields, "{}", row.text);
         let kept = &row.fields[row.kept.field..][..row.kept.count];
-        let handed = row.numbers[row.kept.number..][..row.kept.count].iter();
-        assert!(handed.map(|(what, _)| what).eq(kept), "{}", row.text);
+        let registers = row.lent.iter().filter(|part| **part == REGISTER_LENT);
+        let handed: Vec<&str> = (row.numbers.iter().map(|(what, _)| *what))
+            .chain(registers.map(|part| part.what))
+            .collect();
+        let handed = &handed[row.kept.number..][..row.kept.count];
+        assert_eq!(handed, kept, "{}", row.text);
     }
 }
 

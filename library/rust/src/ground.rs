@@ -55,7 +55,8 @@ pub fn stepped(register: u16) -> Result<Step, Refusal> {
     step_of(unsafe { raw::hansobrik_stepped(register) })
 }
 
-/// The same of a register that changes in place; a refused one stays.
+/// The same of a register that changes in place; a refused one stays as it
+/// was.
 pub fn step(register: &mut u16) -> Result<Step, Refusal> {
     // SAFETY: the register is one number that nobody else looks at meanwhile.
     step_of(unsafe { raw::hansobrik_step(register) })

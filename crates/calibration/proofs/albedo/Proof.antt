@@ -1,8 +1,8 @@
 -- `calibration::albedo` meets its contract. Assumes nothing.
-use mathlib.Core.Path.{sym, ap, subst, _∙_}
+use mathlib.Core.Path.{sym, subst}
 use denote.Ref.{now}
 use Rattle.calibration.specs.declared.Levels.{Levels}
-use Rattle.calibration.specs.Tables.{Table, levelAnswer}
+use Rattle.calibration.specs.Tables.{Table, LevelOk}
 use Rattle.calibration.proofs.Tables.{albedo-table}
 use borrow.Author.Needs.{needs}
 use Rattle.calibration.proofs.albedo.Statement.{statement}
@@ -17,7 +17,7 @@ level-real-requires c κs = subst Table (sym (c .albedo-table .ensures)) albedo-
 returns : tie.Need-returns
 returns c =
     let a = c .before .before .before .args in
-    c .level-real .ensures ∙ ap (λ (t : Levels). levelAnswer t (a .format) (a .marks) (now (a .block)) (a .channel) (a .level)) (c .before .albedo-table .ensures)
+    subst (λ (t : Levels). LevelOk t (a .format) (a .marks) (now (a .block)) (a .channel) (a .level) (c .level-real .result)) (c .before .albedo-table .ensures) (c .level-real .ensures)
 
 pub albedo-spec : {M : Type 1} → statement M
 albedo-spec = tie.close (tie.spec albedo-table-requires level-real-requires returns)

@@ -1,8 +1,6 @@
 -- `calibration::albedo_f64` meets its contract. Assumes nothing.
-use mathlib.Core.Path.{sym, ap, subst, _∙_}
-use denote.Ref.{now}
-use Rattle.numbers.specs.Floats.{FitsIn, asFloat}
-use Rattle.calibration.specs.Tables.{albedos, levelF64Answer}
+use Rattle.numbers.proofs.Settled.{says-fits, says-float}
+use Rattle.calibration.specs.Tables.{albedos}
 use Rattle.calibration.proofs.Tables.{albedo-table, level-fits}
 use borrow.Author.Needs.{needs}
 use Rattle.calibration.proofs.albedo_f64.Statement.{statement}
@@ -12,13 +10,10 @@ albedo-requires : tie.Need-albedo-requires
 albedo-requires c κs = search needs
 
 as-float-requires : tie.Need-as-float-requires
-as-float-requires c κs =
-    let a = c .before .before .args in
-    subst FitsIn (sym (c .albedo .ensures)) (level-fits albedos (a .format) (a .marks) (now (a .block)) (a .channel) (a .level) albedo-table)
+as-float-requires c κs = says-fits _ _ _ (c .albedo .ensures) (λ e. level-fits albedos _ _ _ albedo-table)
 
 returns : tie.Need-returns
-unfolding levelF64Answer
-returns c = c .as-float .ensures ∙ ap asFloat (c .before .albedo .ensures)
+returns c = says-float _ _ _ _ (c .before .albedo .ensures) (c .as-float .ensures)
 
 pub albedo-f64-spec : {M : Type 1} → statement M
 albedo-f64-spec = tie.close (tie.spec albedo-requires as-float-requires returns)

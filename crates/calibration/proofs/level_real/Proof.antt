@@ -6,14 +6,14 @@ use denote.Ref.{now}
 use lib.ListN.{length}
 use Rattle.refusals.specs.Refusals.{outsideOf}
 use Rattle.refusals.proofs.Words.{inside}
-use Rattle.refusals.proofs.Given.{given-some, given-none}
+use Rattle.refusals.proofs.Says.{says-some, says-none}
 use Rattle.bits.specs.Bits.{stretch}
-use Rattle.numbers.specs.declared.Real.the-variants.{Is, Refused}
 use Rattle.numbers.specs.Reals.{realIn}
+use Rattle.numbers.proofs.Settled.{reals}
 use Rattle.blocks.specs.Blocks.{calibration2}
 use Rattle.entries.specs.Entries.{entryRefusal}
 use Rattle.entries.proofs.Known.{Given, given}
-use Rattle.calibration.specs.Tables.{levelAt, levelRefusal, levelAnswer}
+use Rattle.calibration.specs.Tables.{levelAt, levelRefusal}
 use Rattle.calibration.proofs.Tables.{calibration-size}
 use borrow.Author.Needs.{needs}
 use Rattle.calibration.proofs.level_real.Statement.{statement}
@@ -48,8 +48,7 @@ entry-refusal-requires : tie.Need-entry-refusal-requires
 entry-refusal-requires c κs = search needs
 
 returns : tie.Need-returns
-unfolding levelAnswer
-returns c = given-some Refused _ _ _ (refusal (c .before)) (c .if1 .taken)
+returns c = says-some reals _ _ _ (refusal (c .before)) (c .if1 .taken)
 
 level-place-requires : tie.Need-level-place-requires
 level-place-requires c κs =
@@ -66,12 +65,12 @@ real-at-requires c κs =
     (c .level-place .ensures .1, omega (arith, c .level-place .ensures .2, room, calibration-size), c .before .before .before .before .before .before .before .pre .form)
 
 returns-2 : tie.Need-returns-2
-unfolding levelAnswer levelAt
+unfolding levelAt
 returns-2 c =
     let left = c .before .before in
     let a = left .before .before .before .before .before .before .args in
-    given-none Refused _ _ _ _ (refusal (left .before)) (left .if1 .left)
-    (ap Is (c .real-at .ensures ∙ ap (λ (p : ℕ). realIn 4 (a .t .places) (stretch (now (a .block)) (p - 1) 4)) (c .before .level-place .ensures .0)))
+    says-none reals _ _ _ _ (refusal (left .before)) (left .if1 .left)
+    (c .real-at .ensures ∙ ap (λ (p : ℕ). realIn 4 (a .t .places) (stretch (now (a .block)) (p - 1) 4)) (c .before .level-place .ensures .0))
 
 pub level-real-spec : {M : Type 1} → statement M
 level-real-spec =

@@ -1,8 +1,8 @@
 -- `calibration::temperature` meets its contract. Assumes nothing.
-use mathlib.Core.Path.{sym, ap, subst, _∙_}
+use mathlib.Core.Path.{sym, subst}
 use denote.Ref.{now}
 use Rattle.calibration.specs.declared.Levels.{Levels}
-use Rattle.calibration.specs.Tables.{Table, levelAnswer}
+use Rattle.calibration.specs.Tables.{Table, LevelOk}
 use Rattle.calibration.proofs.Tables.{temperature-table}
 use borrow.Author.Needs.{needs}
 use Rattle.calibration.proofs.temperature.Statement.{statement}
@@ -17,7 +17,7 @@ level-real-requires c κs = subst Table (sym (c .temperature-table .ensures)) te
 returns : tie.Need-returns
 returns c =
     let a = c .before .before .before .args in
-    c .level-real .ensures ∙ ap (λ (t : Levels). levelAnswer t (a .format) (a .marks) (now (a .block)) (a .channel) (a .level)) (c .before .temperature-table .ensures)
+    subst (λ (t : Levels). LevelOk t (a .format) (a .marks) (now (a .block)) (a .channel) (a .level) (c .level-real .result)) (c .before .temperature-table .ensures) (c .level-real .ensures)
 
 pub temperature-spec : {M : Type 1} → statement M
 temperature-spec = tie.close (tie.spec temperature-table-requires level-real-requires returns)

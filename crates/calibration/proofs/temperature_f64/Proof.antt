@@ -1,8 +1,6 @@
 -- `calibration::temperature_f64` meets its contract. Assumes nothing.
-use mathlib.Core.Path.{sym, ap, subst, _∙_}
-use denote.Ref.{now}
-use Rattle.numbers.specs.Floats.{FitsIn, asFloat}
-use Rattle.calibration.specs.Tables.{temperatures, levelF64Answer}
+use Rattle.numbers.proofs.Settled.{says-fits, says-float}
+use Rattle.calibration.specs.Tables.{temperatures}
 use Rattle.calibration.proofs.Tables.{temperature-table, level-fits}
 use borrow.Author.Needs.{needs}
 use Rattle.calibration.proofs.temperature_f64.Statement.{statement}
@@ -12,13 +10,10 @@ temperature-requires : tie.Need-temperature-requires
 temperature-requires c κs = search needs
 
 as-float-requires : tie.Need-as-float-requires
-as-float-requires c κs =
-    let a = c .before .before .args in
-    subst FitsIn (sym (c .temperature .ensures)) (level-fits temperatures (a .format) (a .marks) (now (a .block)) (a .channel) (a .level) temperature-table)
+as-float-requires c κs = says-fits _ _ _ (c .temperature .ensures) (λ e. level-fits temperatures _ _ _ temperature-table)
 
 returns : tie.Need-returns
-unfolding levelF64Answer
-returns c = c .as-float .ensures ∙ ap asFloat (c .before .temperature .ensures)
+returns c = says-float _ _ _ _ (c .before .temperature .ensures) (c .as-float .ensures)
 
 pub temperature-f64-spec : {M : Type 1} → statement M
 temperature-f64-spec = tie.close (tie.spec temperature-requires as-float-requires returns)

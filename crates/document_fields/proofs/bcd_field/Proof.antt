@@ -3,13 +3,14 @@ use mathlib.Core.Path.{_≡_, sym, ap, _∙_}
 use Prim.Native.Nat.{ℕ}
 use borrow.Author.Needs.{needs}
 use denote.Ref.{now}
-use Rattle.numbers.specs.declared.Bcd.the-variants.{Refused}
 use Rattle.refusals.specs.Refusals.{outsideOf}
-use Rattle.numbers.specs.Decimals.{readBcdAnswer}
-use Rattle.document_fields.specs.Fields.{fieldRefusal, bcdFieldAnswer}
+use Rattle.numbers.proofs.Settled.{decimals}
+use Rattle.document_fields.specs.Fields.{fieldRefusal, bcdFieldRefusal}
 use Rattle.document.proofs.Known.{from-place}
 use Rattle.document_fields.proofs.Served.{Served, served}
-use Rattle.refusals.proofs.Given.{given-some, given-none}
+use Rattle.document_fields.proofs.Readings.{bcd-read}
+use Rattle.refusals.proofs.Words.{refused}
+use Rattle.refusals.proofs.Says.{says-some}
 use Rattle.document_fields.proofs.bcd_field.Statement.{statement}
 use Rattle.document_fields.proofs.bcd_field.Tie as tie
 
@@ -29,8 +30,8 @@ field-refusal-requires : tie.Need-field-refusal-requires
 field-refusal-requires c κs = search needs
 
 returns : tie.Need-returns
-unfolding bcdFieldAnswer
-returns c = given-some Refused _ _ _ (tested (c .before)) (c .if1 .taken)
+unfolding bcdFieldRefusal
+returns c = says-some decimals _ _ _ (refused _ _ _ (tested (c .before)) (c .if1 .taken)) (c .if1 .taken)
 
 sub-at : tie.Need-sub-at
 sub-at c = let h = known c in search needs
@@ -48,10 +49,9 @@ read-bcd-requires : tie.Need-read-bcd-requires
 read-bcd-requires c κs = search needs
 
 returns-2 : tie.Need-returns-2
-unfolding bcdFieldAnswer
 returns-2 c =
     let passed = c .before .before in
-    given-none Refused _ _ _ _ (tested (passed .before)) (passed .if1 .left) (c .read-bcd .ensures ∙ ap (readBcdAnswer _) (from-place _ _))
+    bcd-read _ _ _ _ _ (from-place _ _) _ (sym (tested (passed .before)) ∙ passed .if1 .left) (c .read-bcd .ensures)
 
 pub bcd-field-spec : {M : Type 1} → statement M
 bcd-field-spec =

@@ -3,13 +3,13 @@ use mathlib.Core.Path.{_≡_, sym, ap, _∙_}
 use Prim.Native.Nat.{ℕ}
 use borrow.Author.Needs.{needs}
 use denote.Ref.{now}
-use Rattle.numbers.specs.declared.Integer.the-variants.{Refused}
 use Rattle.refusals.specs.Refusals.{outsideOf}
-use Rattle.numbers.specs.Integers.{readIntegerAnswer}
-use Rattle.document_fields.specs.Fields.{fieldRefusal, integerFieldAnswer}
+use Rattle.numbers.proofs.Settled.{integers}
+use Rattle.document_fields.specs.Fields.{fieldRefusal, integerFieldRefusal}
 use Rattle.document.proofs.Known.{from-place}
 use Rattle.document_fields.proofs.Served.{Served, served}
-use Rattle.refusals.proofs.Given.{given-some, given-none}
+use Rattle.document_fields.proofs.Readings.{integer-read}
+use Rattle.refusals.proofs.Says.{says-some}
 use Rattle.document_fields.proofs.integer_field.Statement.{statement}
 use Rattle.document_fields.proofs.integer_field.Tie as tie
 
@@ -29,8 +29,8 @@ field-refusal-requires : tie.Need-field-refusal-requires
 field-refusal-requires c κs = search needs
 
 returns : tie.Need-returns
-unfolding integerFieldAnswer
-returns c = given-some Refused _ _ _ (tested (c .before)) (c .if1 .taken)
+unfolding integerFieldRefusal
+returns c = says-some integers _ _ _ (tested (c .before)) (c .if1 .taken)
 
 sub-at : tie.Need-sub-at
 sub-at c = let h = known c in search needs
@@ -48,10 +48,9 @@ read-integer-requires : tie.Need-read-integer-requires
 read-integer-requires c κs = search needs
 
 returns-2 : tie.Need-returns-2
-unfolding integerFieldAnswer
 returns-2 c =
     let passed = c .before .before in
-    given-none Refused _ _ _ _ (tested (passed .before)) (passed .if1 .left) (c .read-integer .ensures ∙ ap (readIntegerAnswer _) (from-place _ _))
+    integer-read _ _ _ _ _ (from-place _ _) _ (sym (tested (passed .before)) ∙ passed .if1 .left) (c .read-integer .ensures)
 
 pub integer-field-spec : {M : Type 1} → statement M
 integer-field-spec =

@@ -3,12 +3,13 @@ use mathlib.Core.Path.{_≡_, sym, ap, _∙_}
 use Prim.Native.Nat.{ℕ}
 use borrow.Author.Needs.{needs}
 use denote.Ref.{now}
-use Rattle.numbers.specs.declared.Real.the-variants.{Refused}
-use Rattle.numbers.specs.Reals.{formRefusal, readRealAnswer}
-use Rattle.document_fields.specs.Fields.{fieldRefusal, realFieldAnswer}
+use Rattle.numbers.specs.Reals.{formRefusal}
+use Rattle.numbers.proofs.Settled.{reals}
+use Rattle.document_fields.specs.Fields.{fieldRefusal, realFieldRefusal}
 use Rattle.document.proofs.Known.{from-place}
 use Rattle.document_fields.proofs.Served.{Served, served}
-use Rattle.refusals.proofs.Given.{given-some, given-none}
+use Rattle.document_fields.proofs.Readings.{real-read}
+use Rattle.refusals.proofs.Says.{says-some}
 use Rattle.document_fields.proofs.real_field.Statement.{statement}
 use Rattle.document_fields.proofs.real_field.Tie as tie
 
@@ -28,8 +29,8 @@ field-refusal-requires : tie.Need-field-refusal-requires
 field-refusal-requires c κs = search needs
 
 returns : tie.Need-returns
-unfolding realFieldAnswer
-returns c = given-some Refused _ _ _ (tested (c .before)) (c .if1 .taken)
+unfolding realFieldRefusal
+returns c = says-some reals _ _ _ (tested (c .before)) (c .if1 .taken)
 
 sub-at : tie.Need-sub-at
 sub-at c = let h = known c in search needs
@@ -47,10 +48,9 @@ read-real-requires : tie.Need-read-real-requires
 read-real-requires c κs = search needs
 
 returns-2 : tie.Need-returns-2
-unfolding realFieldAnswer
 returns-2 c =
     let passed = c .before .before in
-    given-none Refused _ _ _ _ (tested (passed .before)) (passed .if1 .left) (c .read-real .ensures ∙ ap (readRealAnswer _ _) (from-place _ _))
+    real-read _ _ _ _ _ (from-place _ _) _ _ (sym (tested (passed .before)) ∙ passed .if1 .left) (c .read-real .ensures)
 
 pub real-field-spec : {M : Type 1} → statement M
 real-field-spec =

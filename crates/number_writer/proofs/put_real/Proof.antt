@@ -17,6 +17,7 @@ use Rattle.number_writer.specs.Written.{realBytes, putRealAnswer, putRea
 use Rattle.numbers.proofs.Ranges.{real-form}
 use Rattle.numbers.proofs.Signs.{sign-digits}
 use Rattle.number_writer.proofs.Puts.{put-passed, put-done, written-done}
+use Rattle.number_writer.proofs.Settled.{put-real-told}
 use Rattle.number_writer.proofs.put_real.Statement.{statement}
 use Rattle.number_writer.proofs.put_real.Tie as tie
 
@@ -31,7 +32,7 @@ returns : tie.Need-returns
 unfolding putRealAnswer putRealLeft
 returns c =
     let e = c .before .put-refusal .ensures in
-    (given-some Refused _ _ _ e (c .if1 .taken), sym (kept-some _ _ _ (λ z. c .if1 .taken (e ∙ z))))
+    (put-real-told _ _ _ _ _ (given-some Refused _ _ _ e (c .if1 .taken)), sym (kept-some _ _ _ (λ z. c .if1 .taken (e ∙ z))))
 
 sign-weight-requires : tie.Need-sign-weight-requires
 sign-weight-requires c κs = let f = real-form _ _ (known c .0) in search needs
@@ -65,7 +66,8 @@ returns-2 c =
     let whole = c .before .before .before .before .put-together .ensures ∙ ap (λ (w : ℕ). signBit s * w + args .magnitude) (weighed .sign-weight .ensures) in
     let bytes = ap (digits (8 * n)) whole ∙ sign-digits s (args .magnitude) n (omega arith) (k .1) in
     let written = c .before .before .put-whole .ensures ∙ ap (λ (bs : List ℕ). fieldsOf 8 n bs ++ drop n out) bytes in
-    (sym (put-done (args .magnitude) n (args .m) (length out) unrefused), written ∙ sym (written-done s (args .magnitude) n (args .m) out unrefused))
+    let told = put-real-told (args .magnitude) n (args .m) (length out) _ (sym (put-done (args .magnitude) n (args .m) (length out) unrefused)) in
+    (told, written ∙ sym (written-done s (args .magnitude) n (args .m) out unrefused))
 
 pub put-real-spec : {M : Type 1} → statement M
 put-real-spec = tie.close (tie.spec put-refusal-requires returns sign-weight-requires put-together-requires put-whole-requires same-length returns-2)

@@ -1,8 +1,7 @@
 -- `numbers::read_f64` meets its contract: a number that was read fits. Assumes nothing.
-use mathlib.Core.Path.{sym, ap, subst, _∙_}
 use borrow.Author.Needs.{needs}
-use Rattle.numbers.specs.Floats.{FitsIn, asFloat, readF64Answer}
-use Rattle.numbers.proofs.Answers.{read-fits}
+use Rattle.numbers.proofs.Answers.{real-passed, real-fits}
+use Rattle.numbers.proofs.Settled.{says-fits, says-float}
 use Rattle.numbers.proofs.read_f64.Statement.{statement}
 use Rattle.numbers.proofs.read_f64.Tie as tie
 
@@ -10,11 +9,10 @@ read-real-requires : tie.Need-read-real-requires
 read-real-requires c κs = search needs
 
 as-float-requires : tie.Need-as-float-requires
-as-float-requires c κs = subst FitsIn (sym (c .read-real .ensures)) (read-fits _ _ _)
+as-float-requires c κs = says-fits _ _ _ (c .read-real .ensures) (λ e. real-fits _ _ _ (real-passed _ _ _ e .0))
 
 returns : tie.Need-returns
-unfolding readF64Answer
-returns c = c .as-float .ensures ∙ ap asFloat (c .before .read-real .ensures)
+returns c = says-float _ _ _ _ (c .before .read-real .ensures) (c .as-float .ensures)
 
 pub read-f64-spec : {M : Type 1} → statement M
 read-f64-spec = tie.close (tie.spec read-real-requires as-float-requires returns)

@@ -1,5 +1,5 @@
 -- `numbers::read_integer` meets its contract. Assumes nothing.
-use mathlib.Core.Path.{sym, ap, _∙_}
+use mathlib.Core.Path.{sym, _∙_}
 use Prim.Native.Nat.{_^_, _≤_}
 use native.Mathlib.Nat.{pow-le-pow-right}
 use native.Mathlib.Omega.{arith}
@@ -7,10 +7,10 @@ use borrow.Author.Needs.{needs}
 use denote.Ref.{now}
 use lib.Dec.{lit<}
 use lib.ListN.{length}
-use Rattle.refusals.proofs.Given.{given-some, given-none}
-use Rattle.numbers.specs.declared.Integer.the-variants.{Is, Refused}
-use Rattle.numbers.specs.Integers.{readIntegerRefusal, readIntegerAnswer}
+use Rattle.refusals.proofs.Says.{says-some, says-none}
+use Rattle.numbers.specs.Integers.{readIntegerRefusal}
 use Rattle.numbers.proofs.Ranges.{Sized, sized}
+use Rattle.numbers.proofs.Settled.{integers}
 use Rattle.numbers.proofs.read_integer.Statement.{statement}
 use Rattle.numbers.proofs.read_integer.Tie as tie
 
@@ -21,8 +21,8 @@ size-refusal-requires : tie.Need-size-refusal-requires
 size-refusal-requires c κs = search needs
 
 returns : tie.Need-returns
-unfolding readIntegerAnswer readIntegerRefusal
-returns c = given-some Refused _ _ _ (c .before .size-refusal .ensures) (c .if1 .taken)
+unfolding readIntegerRefusal
+returns c = says-some integers _ _ _ (c .before .size-refusal .ensures) (c .if1 .taken)
 
 whole-requires : tie.Need-whole-requires
 whole-requires c κs = let k = known c in search needs
@@ -34,10 +34,10 @@ cast-t7 c =
     omega (arith, most)
 
 returns-2 : tie.Need-returns-2
-unfolding readIntegerAnswer readIntegerRefusal
+unfolding readIntegerRefusal
 returns-2 c =
     let tested = c .before in
-    given-none Refused _ _ _ _ (tested .before .size-refusal .ensures) (tested .if1 .left) (ap Is (c .whole .ensures .0))
+    says-none integers _ _ _ _ (tested .before .size-refusal .ensures) (tested .if1 .left) (c .whole .ensures .0)
 
 pub read-integer-spec : {M : Type 1} → statement M
 read-integer-spec = tie.close (tie.spec size-refusal-requires returns whole-requires cast-t7 returns-2)

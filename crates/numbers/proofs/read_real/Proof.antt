@@ -6,13 +6,13 @@ use native.Mathlib.Omega.{arith}
 use borrow.Author.Needs.{needs}
 use denote.Ref.{now}
 use lib.ListN.{length}
-use Rattle.refusals.proofs.Given.{given-some, given-none}
+use Rattle.refusals.proofs.Says.{says-some, says-none}
 use Rattle.bits.specs.Bits.{Below}
 use Rattle.bits.proofs.Below.{below-all}
-use Rattle.numbers.specs.declared.Real.the-variants.{Is, Refused}
-use Rattle.numbers.specs.Reals.{noReal, signBit, readRealRefusal, readRealAnswer}
+use Rattle.numbers.specs.Reals.{noReal, signBit, readRealRefusal}
 use Rattle.numbers.proofs.Ranges.{real-form}
 use Rattle.numbers.proofs.Answers.{real-passed}
+use Rattle.numbers.proofs.Settled.{reals}
 use Rattle.numbers.proofs.Signs.{weight-twice, real-whole}
 use Rattle.numbers.proofs.read_real.Statement.{statement}
 use Rattle.numbers.proofs.read_real.Tie as tie
@@ -34,8 +34,7 @@ first-requires : tie.Need-first-requires
 first-requires c κs = search needs
 
 returns : tie.Need-returns
-unfolding readRealAnswer
-returns c = given-some Refused _ _ _ (tested (c .before)) (c .if1 .taken)
+returns c = says-some reals _ _ _ (tested (c .before)) (c .if1 .taken)
 
 whole-requires : tie.Need-whole-requires
 whole-requires c κs = let k = known c in let f = real-form _ _ (k .0) in search needs
@@ -50,7 +49,6 @@ taken-apart-requires c κs =
     omega (arith, weight-twice n (omega arith))
 
 returns-2 : tie.Need-returns-2
-unfolding readRealAnswer
 returns-2 c =
     let past = c .before .before .before in
     let start = past .before .before .before .before .before in
@@ -63,8 +61,8 @@ returns-2 c =
     let weight = c .before .sign-weight .ensures in
     let parts = sym (c .before .before .whole .ensures .0) ∙ apart .0 ∙ ap (λ (w : ℕ). signBit (c .taken-apart .result .negative) * w + c .taken-apart .result .magnitude) weight in
     let small = rw weight at (apart .1) in
-    given-none Refused _ _ _ _ (tested (past .before)) (past .if1 .left)
-    (ap Is (real-whole (c .taken-apart .result) n (start .args .m) bytes below (omega arith) (k .1) parts small (apart .2)))
+    says-none reals _ _ _ _ (tested (past .before)) (past .if1 .left)
+    (real-whole (c .taken-apart .result) n (start .args .m) bytes below (omega arith) (k .1) parts small (apart .2))
 
 pub read-real-spec : {M : Type 1} → statement M
 read-real-spec =

@@ -1,6 +1,7 @@
 -- `rack_blocks::hansobrik_add_segment` meets its contract. Assumes nothing.
 use mathlib.Core.Path.{ap, _∙_}
 use borrow.Author.Needs.{needs}
+use Rattle.segments.proofs.Settled.{add-segment-is}
 use Rattle.rack_blocks.specs.Assembly.{addGiven}
 use Rattle.rack_blocks.proofs.hansobrik_add_segment.Statement.{statement}
 use Rattle.rack_blocks.proofs.hansobrik_add_segment.Tie as tie
@@ -15,7 +16,9 @@ same-length : tie.Need-same-length
 same-length c = search needs
 
 returns : tie.Need-returns
-returns c = (c .add-given .ensures ∙ ap (addGiven _) (c .before .before .before .add-segment .ensures .0), c .before .before .before .add-segment .ensures .1)
+returns c =
+    let made = c .before .before .before .add-segment .ensures in
+    (c .add-given .ensures ∙ ap (addGiven _) (add-segment-is _ _ _ _ _ _ (made .0)), made .1)
 
 pub hansobrik-add-segment-spec : {M : Type 1} → statement M
 hansobrik-add-segment-spec =

@@ -1,6 +1,7 @@
 -- `rack_blocks::hansobrik_temperature_f64` meets its contract. Assumes nothing.
 use mathlib.Core.Path.{ap, _∙_}
 use borrow.Author.Needs.{needs}
+use Rattle.calibration.proofs.Settled.{level-f64-is}
 use Rattle.rack_number.specs.Number.{floatGiven}
 use Rattle.rack_blocks.proofs.hansobrik_temperature_f64.Statement.{statement}
 use Rattle.rack_blocks.proofs.hansobrik_temperature_f64.Tie as tie
@@ -12,7 +13,7 @@ float-given-requires : tie.Need-float-given-requires
 float-given-requires c κs = search needs
 
 returns : tie.Need-returns
-returns c = c .float-given .ensures ∙ ap floatGiven (c .before .temperature-f64 .ensures)
+returns c = c .float-given .ensures ∙ ap floatGiven (level-f64-is _ _ _ _ _ _ _ (c .before .temperature-f64 .ensures))
 
 pub hansobrik-temperature-f64-spec : {M : Type 1} → statement M
 hansobrik-temperature-f64-spec =

@@ -1,6 +1,5 @@
 -- `rack_document::mirror` meets its contract. Assumes nothing.
 use borrow.Author.Needs.{needs}
-use Rattle.rack_document.specs.Documentation.{mirrorName}
 use Rattle.rack_document.proofs.mirror.Statement.{statement}
 use Rattle.rack_document.proofs.mirror.Tie as tie
 
@@ -35,23 +34,18 @@ named-requires-5 : tie.Need-named-requires-5
 named-requires-5 c κs = search needs
 
 returns : tie.Need-returns
-unfolding mirrorName
 returns c = rw (c .before .enum-told .given .1) (c .named .ensures)
 
 returns-2 : tie.Need-returns-2
-unfolding mirrorName
 returns-2 c = rw (c .before .enum-told2 .given .1) (c .named2 .ensures)
 
 returns-3 : tie.Need-returns-3
-unfolding mirrorName
 returns-3 c = rw (c .before .enum-told3 .given .1) (c .named3 .ensures)
 
 returns-4 : tie.Need-returns-4
-unfolding mirrorName
 returns-4 c = rw (c .before .enum-told4 .given .1) (c .named4 .ensures)
 
 returns-5 : tie.Need-returns-5
-unfolding mirrorName
 returns-5 c = rw (c .before .before .m .given .1) (c .named5 .ensures)
 
 pub mirror-spec : {M : Type 1} → statement M

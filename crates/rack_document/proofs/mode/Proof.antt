@@ -1,6 +1,5 @@
 -- `rack_document::mode` meets its contract. Assumes nothing.
 use borrow.Author.Needs.{needs}
-use Rattle.rack_document.specs.Documentation.{modeName}
 use Rattle.rack_document.proofs.mode.Statement.{statement}
 use Rattle.rack_document.proofs.mode.Tie as tie
 
@@ -29,19 +28,15 @@ named-requires-4 : tie.Need-named-requires-4
 named-requires-4 c κs = search needs
 
 returns : tie.Need-returns
-unfolding modeName
 returns c = rw (c .before .enum-told .given .1) (c .named .ensures)
 
 returns-2 : tie.Need-returns-2
-unfolding modeName
 returns-2 c = rw (c .before .enum-told2 .given .1) (c .named2 .ensures)
 
 returns-3 : tie.Need-returns-3
-unfolding modeName
 returns-3 c = rw (c .before .enum-told3 .given .1) (c .named3 .ensures)
 
 returns-4 : tie.Need-returns-4
-unfolding modeName
 returns-4 c = rw (c .before .before .m .given .1) (c .named4 .ensures)
 
 pub mode-spec : {M : Type 1} → statement M

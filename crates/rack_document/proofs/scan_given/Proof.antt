@@ -15,7 +15,7 @@ enum-known-a-2 c = search needs
 
 returns : tie.Need-returns
 unfolding scanGiven
-returns c = cc
+returns c = rw (c .before .before .a .given .1) (c .mode .ensures)
 
 returns-2 : tie.Need-returns-2
 unfolding scanGiven nameGiven

@@ -15,7 +15,7 @@ enum-known-a-2 c = search needs
 
 returns : tie.Need-returns
 unfolding scannerGiven
-returns c = cc
+returns c = rw (c .before .before .a .given .1) (c .mirror .ensures)
 
 returns-2 : tie.Need-returns-2
 unfolding scannerGiven nameGiven

@@ -1,7 +1,8 @@
 -- `rack_number::hansobrik_put_real` meets its contract. Assumes nothing.
 use mathlib.Core.Path.{ap, _∙_}
 use borrow.Author.Needs.{needs}
-use Rattle.rack_number.specs.Number.{putNumber}
+use Rattle.number_writer.specs.Written.{putNumber}
+use Rattle.number_writer.proofs.Settled.{put-real-is}
 use Rattle.rack_number.proofs.hansobrik_put_real.Statement.{statement}
 use Rattle.rack_number.proofs.hansobrik_put_real.Tie as tie
 
@@ -15,7 +16,7 @@ same-length : tie.Need-same-length
 same-length c = search needs
 
 returns : tie.Need-returns
-returns c = (c .put-number .ensures ∙ ap putNumber (c .before .before .before .put-real .ensures .0), c .before .before .before .put-real .ensures .1)
+returns c = (c .put-number .ensures ∙ ap putNumber (put-real-is _ _ _ _ _ (c .before .before .before .put-real .ensures .0)), c .before .before .before .put-real .ensures .1)
 
 pub hansobrik-put-real-spec : {M : Type 1} → statement M
 hansobrik-put-real-spec =

@@ -1,6 +1,5 @@
 -- `rack_number::put_number` meets its contract. Assumes nothing.
 use borrow.Author.Needs.{needs}
-use Rattle.rack_number.specs.Number.{putNumber}
 use Rattle.rack_number.proofs.put_number.Statement.{statement}
 use Rattle.rack_number.proofs.put_number.Tie as tie
 
@@ -11,11 +10,9 @@ enum-known-a : tie.Need-enum-known-a
 enum-known-a c = search needs
 
 returns : tie.Need-returns
-unfolding putNumber
 returns c = cc
 
 returns-2 : tie.Need-returns-2
-unfolding putNumber
 returns-2 c = cc
 
 pub put-number-spec : {M : Type 1} → statement M

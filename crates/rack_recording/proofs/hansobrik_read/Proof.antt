@@ -2,6 +2,7 @@
 use native.Mathlib.Omega.{arith}
 use borrow.Author.Tests.{lt-ltb, le-ltb}
 use borrow.Author.Needs.{needs}
+use Rattle.reader.proofs.Settled.{read-is}
 use Rattle.rack_recording.specs.Recording.{readOf, lineLeft}
 use Rattle.rack_recording.proofs.hansobrik_read.Statement.{statement}
 use Rattle.rack_recording.proofs.hansobrik_read.Tie as tie
@@ -35,7 +36,9 @@ same-length c = search needs
 returns-2 : tie.Need-returns-2
 unfolding readOf lineLeft
 returns-2 c =
-    let flag = le-ltb 1 (c .before .before .before .before .before .before .before .before .before .before .args .state .«in_line») (omega arith) in (rw flag cc, rw flag cc)
+    let flag = le-ltb 1 (c .before .before .before .before .before .before .before .before .before .before .args .state .«in_line») (omega arith) in
+    let is = read-is _ _ _ _ _ (c .before .before .before .read .ensures .0) in
+    (rw flag cc, rw flag cc)
 
 pub hansobrik-read-spec : {M : Type 1} → statement M
 hansobrik-read-spec =

@@ -2,7 +2,7 @@
 use mathlib.Core.Path.{ap}
 use mathlib.Core.Bool.{true, false}
 use borrow.Author.Needs.{needs}
-use Rattle.rack_recording.specs.Recording.{readGiven}
+use Rattle.rack_recording.specs.Recording.{readGiven, refusedRead}
 use Rattle.rack_recording.proofs.read_given.Statement.{statement}
 use Rattle.rack_recording.proofs.read_given.Tie as tie
 
@@ -25,8 +25,8 @@ kept-requires-2 : tie.Need-kept-requires-2
 kept-requires-2 c κs = search needs
 
 returns : tie.Need-returns
-unfolding readGiven
-returns c = cc
+unfolding readGiven refusedRead
+returns c = rw (c .before .before .a .given .1) (c .refused-read .ensures)
 
 returns-2 : tie.Need-returns-2
 unfolding readGiven

@@ -1,27 +1,38 @@
 -- `segments::add_segment` meets its contract. Assumes nothing.
 use mathlib.Core.Path.{_≡_, sym, ap, subst, _∙_}
-use Prim.Native.Nat.{_≤_}
+use Prim.Native.Nat.{ℕ, _≤_}
 use denote.Ref.{now}
 use lib.ListN.{length}
 use Rattle.formats.specs.Formats.{lineBytes}
-use Rattle.document.specs.declared.segments.SubCommutation.the-variants.{Is, Refused}
+use Rattle.refusals.proofs.Words.{kept-some, kept-none, refused}
+use Rattle.refusals.proofs.Says.{says-some}
+use Rattle.document.specs.declared.segments.SubCommutation.the-variants.{Refused}
+use Rattle.document.specs.Segments.{subNumber, subSegment}
 use Rattle.blocks.specs.declared.block.Block.{Block}
 use Rattle.blocks.specs.Blocks.{Sound}
 use Rattle.blocks.proofs.Rows.{sound}
-use Rattle.segments.specs.Assembly.{placeAnswer, placeLeft, carriedAnswer}
-use Rattle.segments.proofs.Known.{carries, added-is, added-refused}
+use Rattle.segments.specs.Assembly.{segmentIn, carriedRefusal, addSegmentRefusal, addSegmentLeft}
+use Rattle.segments.proofs.Known.{carries}
+use Rattle.segments.proofs.Settled.{added-kind, added-told}
 use borrow.Author.Needs.{needs}
 use Rattle.segments.proofs.add_segment.Statement.{statement}
 use Rattle.segments.proofs.add_segment.Tie as tie
 
--- in either arm: what `carried` gave
+-- the arm of a segment: nothing refuses the line before its bytes are compared, and the segment is that of byte 194
 is-carried : (c : tie.After-segment) → let a = c .before .before .before .before .before .args in
-    carriedAnswer (a .format) (a .marks) (now (a .line)) (a .number) (length (now (a .block))) ≡ Is (c .segment .given .0 .0) (c .segment .given .0 .1 .0)
-is-carried c = sym (c .before .before .carried .ensures) ∙ c .segment .given .1
+    carriedRefusal (a .format) (a .marks) (now (a .line)) (a .number) (length (now (a .block))) ≡ 0
+is-carried c = sym (c .before .before .carried .ensures .0) ∙ ap subNumber (c .segment .given .1)
 
+is-segment : (c : tie.After-segment) → let a = c .before .before .before .before .before .args in c .segment .given .0 .0 ≡ segmentIn (now (a .line))
+is-segment c = ap subSegment (sym (c .segment .given .1)) ∙ ap (λ (v : ℕ × ℕ). v .0) (c .before .before .carried .ensures .1 ∙ kept-none _ _ _ (is-carried c))
+
+-- the other arm: what refuses it
 is-refused : (c : tie.After-k) → let a = c .before .before .before .before .before .args in
-    carriedAnswer (a .format) (a .marks) (now (a .line)) (a .number) (length (now (a .block))) ≡ Refused (c .k .given .0 .0)
-is-refused c = sym (c .before .before .carried .ensures) ∙ c .k .given .1
+    c .k .given .0 .0 ≡ carriedRefusal (a .format) (a .marks) (now (a .line)) (a .number) (length (now (a .block)))
+is-refused c = ap subNumber (sym (c .k .given .1)) ∙ c .before .before .carried .ensures .0
+
+some : (c : tie.After-k) → c .k .given .0 .0 ≡ 0 → ⊥
+some c z = c .before .before .carried .ensures .2 (c .k .given .1 ∙ ap Refused z)
 
 carried-requires : tie.Need-carried-requires
 carried-requires c κs = search needs
@@ -36,9 +47,10 @@ place-requires : tie.Need-place-requires
 place-requires c κs =
     let start = c .before .before .before .before .before .before .before .before in
     let a = start .args in
-    let h = carries (a .format) (a .marks) (now (a .line)) (a .number) (length (now (a .block))) _ _ (is-carried (c .before .before .before)) in
-    subst (λ (b : Block). Sound b × (c .before .before .before .segment .given .0 .0 ≤ 24) × (lineBytes ≤ length (now (a .line))) × (b .size ≤ length (now (a .block)))) (sym (c .before .block-of .ensures))
-    (sound (a .number) (h .low) (h .high), h .segment, h .long, h .room)
+    let found = c .before .before .before in
+    let h = carries (a .format) (a .marks) (now (a .line)) (a .number) (length (now (a .block))) (is-carried found) in
+    subst (λ (b : Block). Sound b × (found .segment .given .0 .0 ≤ 24) × (lineBytes ≤ length (now (a .line))) × (b .size ≤ length (now (a .block)))) (sym (c .before .block-of .ensures))
+    (sound (a .number) (h .low) (h .high), subst (λ (s : ℕ). s ≤ 24) (sym (is-segment found)) (h .segment), h .long, h .room)
 
 enum-known-k : tie.Need-enum-known-k
 enum-known-k c = search needs
@@ -51,19 +63,15 @@ returns c =
     let placed = c .before .before in
     let found = placed .before .before .before .before in
     let a = found .before .before .before .before .before .args in
-    let s = found .segment .given .0 .0 in
-    let is = added-is (a .format) (a .marks) (now (a .line)) (a .number) (now (a .block)) _ _ (is-carried found) in
-    let own = placed .before .before .block-of .ensures in (
-      placed .place .ensures .0 ∙ ap (λ (b : Block). placeAnswer b (a .marks) (now (a .line)) s (now (a .block))) own ∙ sym (is .0),
-      placed .place .ensures .1 ∙ ap (λ (b : Block). placeLeft b (a .marks) (now (a .line)) s (now (a .block))) own ∙ sym (is .1),
-    )
+    added-told (a .format) (a .marks) (now (a .line)) (a .number) (now (a .block)) (is-carried found) _ _ (placed .before .before .block-of .ensures) (is-segment found) _ _ (placed .place .ensures)
 
 returns-2 : tie.Need-returns-2
+unfolding addSegmentRefusal addSegmentLeft
 returns-2 c =
     let found = c .before in
     let a = found .before .before .before .before .before .args in
-    let is = added-refused (a .format) (a .marks) (now (a .line)) (a .number) (now (a .block)) _ (is-refused found) in
-    (sym (is .0), sym (is .1))
+    let e = refused _ _ _ (is-refused found) (some found) in
+    (says-some (added-kind (a .marks)) _ _ _ e (some found), sym (kept-some _ _ _ (λ z. some found (e ∙ z))))
 
 pub add-segment-spec : {M : Type 1} → statement M
 add-segment-spec =

@@ -1,6 +1,6 @@
 -- `sync::put_scrambling` meets its contract. Assumes nothing.
-use mathlib.Core.Path.{_≡_}
-use Prim.Native.Nat.{_+_, _-_, _*_, _≤_, _<_}
+use mathlib.Core.Path.{_≡_, sym, ap, _∙_}
+use Prim.Native.Nat.{ℕ, _+_, _-_, _*_, _≤_, _<_}
 use native.Mathlib.Omega.{arith}
 use borrow.Author.Needs.{needs}
 use denote.Ref.{now}
@@ -9,9 +9,11 @@ use lib.Seq.{paste, paste-zero}
 use Rattle.bits.specs.Bits.{bitsOf}
 use Rattle.bits.proofs.Bytes.{length-bits}
 use Rattle.bits.proofs.Writes.{paste-turn, paste-done}
-use Rattle.scramble.specs.Register.{registerAfter, scramblingBits}
-use Rattle.scramble.proofs.Steps.{newBit-lt, length-scrambling, getD-scrambling}
+use Rattle.scramble.specs.Register.{newBit, nextRegister, registerAfter, scramblingBits}
+use Rattle.scramble.specs.Sync.{fifteenOnes}
+use Rattle.scramble.proofs.Steps.{length-scrambling, getD-scrambling}
 use Rattle.scramble.proofs.Turn.{register-turn}
+use Rattle.wire.proofs.Rule.{after-lt}
 use Rattle.sync.proofs.put_scrambling.Statement.{statement}
 use Rattle.sync.proofs.put_scrambling.Tie as tie
 
@@ -25,24 +27,25 @@ Inv-loop s₀ from count reg₀ i₀ s reg i =
 abbrev μ-loop : tie.MeasureT-loop
 μ-loop s₀ from count reg₀ i₀ s reg i = count - i
 
+-- the register stays within its fifteen bits
+small : (i r reg : ℕ) → r ≤ fifteenOnes → reg ≡ registerAfter i r → reg ≤ fifteenOnes
+small i r reg h e = omega (arith, after-lt i r (omega arith))
+
 loop-holds : tie.Need-loop-holds Inv-loop μ-loop
 unfolding registerAfter
 loop-holds c =
     let args = c .before .args in
     (search needs, paste-zero (bitsOf (now (args .s))) (args .from) (scramblingBits (args .count) (args .r .bits)), search needs, search needs)
 
-stepped-requires : tie.Need-stepped-requires Inv-loop μ-loop
-stepped-requires c κs = search needs
+add-put-next : tie.Need-add-put-next Inv-loop μ-loop
+add-put-next c = search needs
 
-add-put-bit : tie.Need-add-put-bit Inv-loop μ-loop
-add-put-bit c = search needs
-
-put-bit-requires : tie.Need-put-bit-requires Inv-loop μ-loop
-put-bit-requires c κs =
-    let at-step = c .before in
-    let at-loop = at-step .before .before in
-    let here : at-loop .before .before .args .from + at-loop .loop .i < 8 * length (at-loop .loop .s) = omega arith in
-    (here, rw (at-step .stepped .ensures .1) (newBit-lt (at-loop .loop .reg .bits)))
+put-next-requires : tie.Need-put-next-requires Inv-loop μ-loop
+put-next-requires c κs =
+    let at-loop = c .before .before in
+    let start = at-loop .before .before in
+    let here : start .args .from + at-loop .loop .i < 8 * length (at-loop .loop .s) = omega arith in
+    (here, small (at-loop .loop .i) (start .args .r .bits) (at-loop .loop .reg .bits) (start .pre .2) (at-loop .loop .inv .3))
 
 add-i : tie.Need-add-i Inv-loop μ-loop
 add-i c = search needs
@@ -52,20 +55,20 @@ loop-less c = search needs
 
 loop-again : tie.Need-loop-again Inv-loop μ-loop
 loop-again c =
-    let at-step = c .before .before .before .before .before in
-    let at-loop = at-step .before .before in
+    let at-put = c .before .before in
+    let at-loop = at-put .before .before .before in
     let start = at-loop .before .before in
     let args = start .args in
     let s₀ = now (args .s) in
     let i = at-loop .loop .i in
     let r = args .r .bits in
     let bits = scramblingBits (args .count) r in
-    let more : i < args .count = at-step .before .loop-test .taken in
+    let more : i < args .count = at-put .before .before .loop-test .taken in
     let in-s : args .from + i < length (bitsOf s₀) = rw length-bits (omega (arith, start .pre .0)) in
     let in-bits : i < length bits = rw length-scrambling more in
-    let value : at-step .stepped .result .bit ≡ getD bits i 0 = cc (getD-scrambling (args .count) r i more) in
-    let turn = paste-turn (bitsOf s₀) (args .from) bits i (at-step .stepped .result .bit) in-s in-bits value in
-    (search needs, cc turn, search needs, cc (register-turn i r))
+    let value : newBit (at-loop .loop .reg .bits) ≡ getD bits i 0 = ap newBit (at-loop .loop .inv .3) ∙ sym (getD-scrambling (args .count) r i more) in
+    let turn = paste-turn (bitsOf s₀) (args .from) bits i (newBit (at-loop .loop .reg .bits)) in-s in-bits value in
+    (search needs, cc turn, search needs, at-put .put-next .ensures .1 ∙ ap nextRegister (at-loop .loop .inv .3) ∙ register-turn i r)
 
 same-length : tie.Need-same-length Inv-loop μ-loop
 same-length c = search needs
@@ -84,9 +87,8 @@ put-scrambling-spec =
     Inv-loop
     μ-loop
     loop-holds
-    stepped-requires
-    add-put-bit
-    put-bit-requires
+    add-put-next
+    put-next-requires
     add-i
     loop-less
     loop-again

@@ -4,8 +4,10 @@ use native.Mathlib.Omega.{arith}
 use borrow.Author.Needs.{needs}
 use denote.Ref.{now}
 use Rattle.bits.proofs.Below.{below-all}
+use Rattle.formats.proofs.Settled.{format-is}
 use Rattle.formats.proofs.Which.{parts}
 use Rattle.refusals.proofs.Words.{enough}
+use Rattle.sync.proofs.Opening.{before-small}
 use Rattle.sync.proofs.Putting.{sync-refused, sync-short, sync-done}
 use Rattle.sync.proofs.put_sync.Statement.{statement}
 use Rattle.sync.proofs.put_sync.Tie as tie
@@ -28,7 +30,7 @@ returns c =
     let at-f = at-short .before .before .before in
     let at-of = at-f .before .before in
     let args = at-of .before .before .args in
-    sync-short (args .format) (now (args .out)) _ (sym (at-of .of .ensures) ∙ at-f .f .given .1) _ (at-short .short .ensures) (c .if1 .taken)
+    sync-short (args .format) (now (args .out)) _ (sym (format-is _ _ (at-of .of .ensures)) ∙ at-f .f .given .1) _ (at-short .short .ensures) (c .if1 .taken)
 
 before-sync-requires : tie.Need-before-sync-requires
 before-sync-requires c κs = search needs
@@ -39,15 +41,15 @@ put-scrambling-requires c κs =
     let at-f = at-short .before .before .before in
     let at-of = at-f .before .before in
     let args = at-of .before .before .args in
-    let facts = parts (args .format) _ (sym (at-of .of .ensures) ∙ at-f .f .given .1) in
+    let facts = parts (args .format) _ (sym (format-is _ _ (at-of .of .ensures)) ∙ at-f .f .given .1) in
     let room = enough _ _ 3 (λ z. omega arith) (sym (at-short .short .ensures) ∙ c .before .before .if1 .left) in
-    (omega (arith, facts .sync-whole, room), omega (arith, facts .sync-whole, facts .all, facts .small))
+    (omega (arith, facts .sync-whole, room), omega (arith, facts .sync-whole, facts .all, facts .small), rw (c .before-sync .ensures) (before-small _))
 
 returns-2 : tie.Need-returns-2
 returns-2 c =
     let at-of = c .before .before .before in
     let args = at-of .before .before .args in
-    sync-refused (args .format) (now (args .out)) _ (sym (at-of .of .ensures) ∙ c .before .number .given .1)
+    sync-refused (args .format) (now (args .out)) _ (sym (format-is _ _ (at-of .of .ensures)) ∙ c .before .number .given .1)
 
 same-length : tie.Need-same-length
 same-length c = search needs
@@ -60,7 +62,7 @@ returns-3 c =
     let at-of = at-f .before .before in
     let at-slice = at-of .before in
     let args = at-slice .before .args in
-    sync-done (args .format) (now (args .out)) _ (sym (at-of .of .ensures) ∙ at-f .f .given .1) _ (at-short .short .ensures) _ _ (at-put .before .before .before .if1 .left)
+    sync-done (args .format) (now (args .out)) _ (sym (format-is _ _ (at-of .of .ensures)) ∙ at-f .f .given .1) _ (at-short .short .ensures) _ _ (at-put .before .before .before .if1 .left)
     (below-all 256 (now (args .out)) (λ i. at-slice .slice-known .given i .fits))
     (below-all 256 _ (λ i. c .slice-known2 .given i .fits))
     (at-put .before .before-sync .ensures)

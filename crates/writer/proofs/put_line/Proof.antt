@@ -3,6 +3,7 @@ use native.Mathlib.Omega.{arith}
 use borrow.Author.Needs.{needs}
 use denote.Ref.{now}
 use Rattle.formats.proofs.Which.{parts}
+use Rattle.sync.proofs.Opening.{before-small}
 use Rattle.writer.proofs.Laying.{laid}
 use Rattle.writer.proofs.put_line.Statement.{statement}
 use Rattle.writer.proofs.put_line.Tie as tie
@@ -18,7 +19,7 @@ put-scrambling-requires c κs =
     let start = c .before .before .before .before in
     let p = parts (start .pre .number) (start .args .f) (start .pre .known) in
     let room = start .pre .room in
-    (omega (arith, p .sync-whole, p .all), omega (arith, p .sync-whole, p .all, p .small))
+    (omega (arith, p .sync-whole, p .all), omega (arith, p .sync-whole, p .all, p .small), rw (c .before-sync .ensures) (before-small _))
 
 copy-requires : tie.Need-copy-requires
 copy-requires c κs =

@@ -4,6 +4,7 @@ use borrow.Author.Needs.{needs}
 use denote.Ref.{now}
 use Rattle.bits.proofs.Below.{below-all}
 use Rattle.refusals.specs.Refusals.{first}
+use Rattle.formats.proofs.Settled.{format-is}
 use Rattle.writer.proofs.Ways.{write-unknown, write-short, line-whole, output-room, write-done}
 use Rattle.writer.proofs.write_line.Statement.{statement}
 use Rattle.writer.proofs.write_line.Tie as tie
@@ -33,7 +34,7 @@ returns c =
     let at-f = at-short .before .before in
     let at-of = at-f .before .before in
     let args = at-of .before .before .before .args in
-    write-short (args .format) (now (args .line)) (now (args .out)) _ (sym (at-of .of .ensures) ∙ at-f .f .given .1) _
+    write-short (args .format) (now (args .line)) (now (args .out)) _ (sym (format-is _ _ (at-of .of .ensures)) ∙ at-f .f .given .1) _
     (at-first .first .ensures ∙ ap₂ first (at-short .short .ensures) (at-first .before .short2 .ensures)) (c .if1 .taken)
 
 put-line-requires : tie.Need-put-line-requires
@@ -44,7 +45,7 @@ put-line-requires c κs =
     let at-f = at-short .before .before in
     let at-of = at-f .before .before in
     let args = at-of .before .before .before .args in
-    let known = sym (at-of .of .ensures) ∙ at-f .f .given .1 in
+    let known = sym (format-is _ _ (at-of .of .ensures)) ∙ at-f .f .given .1 in
     let short = at-first .first .ensures ∙ ap₂ first (at-short .short .ensures) (at-first .before .short2 .ensures) in
     record {
       number = args .format;
@@ -57,7 +58,7 @@ returns-2 : tie.Need-returns-2
 returns-2 c =
     let at-of = c .before .before .before in
     let args = at-of .before .before .before .args in
-    write-unknown (args .format) (now (args .line)) (now (args .out)) _ (sym (at-of .of .ensures) ∙ c .before .number .given .1)
+    write-unknown (args .format) (now (args .line)) (now (args .out)) _ (sym (format-is _ _ (at-of .of .ensures)) ∙ c .before .number .given .1)
 
 same-length : tie.Need-same-length
 same-length c = search needs
@@ -72,7 +73,7 @@ returns-3 c =
     let at-of = at-f .before .before in
     let at-slice = at-of .before in
     let args = at-slice .before .before .args in
-    write-done (args .format) (now (args .line)) (now (args .out)) _ (sym (at-of .of .ensures) ∙ at-f .f .given .1) _
+    write-done (args .format) (now (args .line)) (now (args .out)) _ (sym (format-is _ _ (at-of .of .ensures)) ∙ at-f .f .given .1) _
     (at-first .first .ensures ∙ ap₂ first (at-short .short .ensures) (at-first .before .short2 .ensures)) (else1 .if1 .left) _
     (below-all 256 (now (args .out)) (λ i. at-slice .slice-known .given i .fits))
     (below-all 256 _ (λ i. c .slice-known2 .given i .fits))

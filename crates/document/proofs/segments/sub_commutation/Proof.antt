@@ -5,11 +5,11 @@ use borrow.Author.Needs.{needs}
 use denote.Ref.{now}
 use lib.ListN.{length}
 use Rattle.refusals.proofs.Words.{refused, passed}
-use Rattle.refusals.proofs.Given.{given-some, given-none}
+use Rattle.refusals.proofs.Says.{says-some, says-none}
 use Rattle.formats.specs.Formats.{lineBytes}
-use Rattle.document.specs.declared.segments.SubCommutation.the-variants.{Refused}
-use Rattle.document.specs.Segments.{subCommutationRefusal, subCommutationAnswer}
+use Rattle.document.specs.Segments.{subCommutationRefusal}
 use Rattle.document.proofs.Known.{doc-long}
+use Rattle.document.proofs.Settled.{sub-kind}
 use Rattle.document.proofs.segments.sub_commutation.Statement.{statement}
 use Rattle.document.proofs.segments.sub_commutation.Tie as tie
 
@@ -33,10 +33,10 @@ doc-refusal-requires : tie.Need-doc-refusal-requires
 doc-refusal-requires c κs = search needs
 
 returns : tie.Need-returns
-unfolding subCommutationAnswer subCommutationRefusal
+unfolding subCommutationRefusal
 returns c =
     let e = c .before .doc-refusal .ensures in
-    given-some Refused _ _ _ (refused _ _ _ e (c .if1 .taken)) (c .if1 .taken)
+    says-some sub-kind _ _ _ (refused _ _ _ e (c .if1 .taken)) (c .if1 .taken)
 
 doc-byte-requires : tie.Need-doc-byte-requires
 doc-byte-requires c κs = let h = long c in search needs
@@ -54,14 +54,12 @@ segment-refusal-requires : tie.Need-segment-refusal-requires
 segment-refusal-requires c κs = search needs
 
 returns-2 : tie.Need-returns-2
-unfolding subCommutationAnswer
-returns-2 c = given-some Refused _ _ _ (tested (c .before)) (c .if2 .taken)
+returns-2 c = says-some sub-kind _ _ _ (tested (c .before)) (c .if2 .taken)
 
 returns-3 : tie.Need-returns-3
-unfolding subCommutationAnswer
 returns-3 c =
     let repeat = c .before .before .before .before in
-    given-none Refused _ _ _ _ (tested (c .before)) (c .if2 .left) (simp (repeat .doc-byte2 .ensures, repeat .before .doc-byte .ensures) refl)
+    says-none sub-kind _ _ _ _ (tested (c .before)) (c .if2 .left) (simp (repeat .doc-byte2 .ensures, repeat .before .doc-byte .ensures) refl)
 
 pub sub-commutation-spec : {M : Type 1} → statement M
 sub-commutation-spec =

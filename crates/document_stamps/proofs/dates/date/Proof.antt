@@ -1,17 +1,17 @@
 -- `document_stamps::dates::date` meets its contract. Assumes nothing.
-use mathlib.Core.Path.{_≡_, sym, ap, _∙_}
+use mathlib.Core.Path.{_≡_, sym, _∙_}
 use Prim.Native.Nat.{_≤_}
 use borrow.Author.Needs.{needs}
 use denote.Ref.{now}
 use lib.ListN.{length}
 use Rattle.refusals.proofs.Words.{refused, passed}
-use Rattle.refusals.proofs.Given.{given-some, given-none}
+use Rattle.refusals.proofs.Says.{says-some, says-none}
 use Rattle.formats.specs.Formats.{lineBytes}
 use Rattle.bits.specs.Bits.{stretch}
 use Rattle.document.specs.Place.{docPart}
 use Rattle.document.proofs.Known.{doc-long}
-use Rattle.document_stamps.specs.declared.dates.Dated.the-variants.{Is, Refused}
-use Rattle.document_stamps.specs.Dates.{dateRefusal, dateAnswer}
+use Rattle.document_stamps.specs.Dates.{dateRefusal}
+use Rattle.document_stamps.proofs.Settled.{dated-kind}
 use Rattle.document_stamps.proofs.dates.date.Statement.{statement}
 use Rattle.document_stamps.proofs.dates.date.Tie as tie
 
@@ -29,8 +29,8 @@ doc-refusal-requires : tie.Need-doc-refusal-requires
 doc-refusal-requires c κs = search needs
 
 returns : tie.Need-returns
-unfolding dateAnswer dateRefusal
-returns c = given-some Refused _ _ _ (refused _ _ _ (c .before .doc-refusal .ensures) (c .if1 .taken)) (c .if1 .taken)
+unfolding dateRefusal
+returns c = says-some dated-kind _ _ _ (refused _ _ _ (c .before .doc-refusal .ensures) (c .if1 .taken)) (c .if1 .taken)
 
 sub-date-refusal : tie.Need-sub-date-refusal
 sub-date-refusal c = let h = long c in search needs
@@ -45,8 +45,7 @@ date-refusal-requires : tie.Need-date-refusal-requires
 date-refusal-requires c κs = let h = long (c .before) in search needs
 
 returns-2 : tie.Need-returns-2
-unfolding dateAnswer
-returns-2 c = given-some Refused _ _ _ (tested (c .before)) (c .if2 .taken)
+returns-2 c = says-some dated-kind _ _ _ (tested (c .before)) (c .if2 .taken)
 
 sub-date-in : tie.Need-sub-date-in
 sub-date-in c = let h = long (c .before .before .before) in search needs
@@ -61,10 +60,10 @@ date-in-requires : tie.Need-date-in-requires
 date-in-requires c κs = let h = long (c .before .before .before .before) in search needs
 
 returns-3 : tie.Need-returns-3
-unfolding dateAnswer docPart stretch
+unfolding docPart stretch
 returns-3 c =
     let passed = c .before .before in
-    given-none Refused _ _ _ _ (tested (passed .before)) (passed .if2 .left) (ap Is (c .date-in .ensures))
+    says-none dated-kind _ _ _ _ (tested (passed .before)) (passed .if2 .left) (c .date-in .ensures)
 
 pub date-spec : {M : Type 1} → statement M
 date-spec =

@@ -1,15 +1,15 @@
 -- `document_stamps::lines::line_numbers` meets its contract. Assumes nothing.
-use mathlib.Core.Path.{_≡_, sym, ap, _∙_}
+use mathlib.Core.Path.{_≡_, sym, _∙_}
 use Prim.Native.Nat.{_≤_}
 use borrow.Author.Needs.{needs}
 use denote.Ref.{now}
 use lib.ListN.{length}
 use Rattle.refusals.proofs.Words.{refused, passed}
-use Rattle.refusals.proofs.Given.{given-some, given-none}
+use Rattle.refusals.proofs.Says.{says-some, says-none}
 use Rattle.formats.specs.Formats.{lineBytes}
 use Rattle.document.proofs.Known.{doc-long}
-use Rattle.document_stamps.specs.declared.lines.Numbered.the-variants.{Is, Refused}
-use Rattle.document_stamps.specs.Lines.{lineNumbersRefusal, lineNumbersAnswer}
+use Rattle.document_stamps.specs.Lines.{lineNumbersRefusal}
+use Rattle.document_stamps.proofs.Settled.{numbered-kind}
 use Rattle.document_stamps.proofs.lines.line_numbers.Statement.{statement}
 use Rattle.document_stamps.proofs.lines.line_numbers.Tie as tie
 
@@ -25,22 +25,20 @@ doc-refusal-requires : tie.Need-doc-refusal-requires
 doc-refusal-requires c κs = search needs
 
 returns : tie.Need-returns
-unfolding lineNumbersAnswer lineNumbersRefusal
-returns c = given-some Refused _ _ _ (refused _ _ _ (c .before .doc-refusal .ensures) (c .if1 .taken)) (c .if1 .taken)
+unfolding lineNumbersRefusal
+returns c = says-some numbered-kind _ _ _ (refused _ _ _ (c .before .doc-refusal .ensures) (c .if1 .taken)) (c .if1 .taken)
 
 counts-refusal-requires : tie.Need-counts-refusal-requires
 counts-refusal-requires c κs = long c
 
 returns-2 : tie.Need-returns-2
-unfolding lineNumbersAnswer
-returns-2 c = given-some Refused _ _ _ (tested (c .before)) (c .if2 .taken)
+returns-2 c = says-some numbered-kind _ _ _ (tested (c .before)) (c .if2 .taken)
 
 lines-in-requires : tie.Need-lines-in-requires
 lines-in-requires c κs = long (c .before .before)
 
 returns-3 : tie.Need-returns-3
-unfolding lineNumbersAnswer
-returns-3 c = given-none Refused _ _ _ _ (tested (c .before .before)) (c .before .if2 .left) (ap Is (c .lines-in .ensures))
+returns-3 c = says-none numbered-kind _ _ _ _ (tested (c .before .before)) (c .before .if2 .left) (c .lines-in .ensures)
 
 pub line-numbers-spec : {M : Type 1} → statement M
 line-numbers-spec =

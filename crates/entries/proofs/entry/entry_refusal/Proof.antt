@@ -1,5 +1,5 @@
 -- `entries::entry::entry_refusal` meets its contract. Assumes nothing.
-use mathlib.Core.Path.{ap, ap₂, _∙_}
+use mathlib.Core.Path.{_≡_, ap, ap₂, _∙_}
 use Prim.Native.Nat.{ℕ}
 use Rattle.refusals.specs.Refusals.{first, shortOf}
 use Rattle.blocks.specs.declared.block.Block.{Block}
@@ -51,9 +51,10 @@ returns c =
     let named = whole .before .before .before .before in
     let asked = named .before .before .before in
     let args = asked .before .before .before .args in
+    let in-order : c .before .first5 .result ≡ first (named .first3 .result) (whole .first4 .result) = c .before .first5 .ensures in
     c .first6 .ensures
     ∙ ap₂ first (asked .first .ensures ∙ ap₂ first (asked .before .before .format-refusal .ensures) (asked .before .marks-refusal .ensures))
-    (c .before .first5 .ensures
+    (in-order
     ∙ ap₂ first (named .first3 .ensures ∙ ap (λ (n : ℕ). first n (args .range)) (named .before .first2 .ensures ∙ ap (λ (n : ℕ). first n (args .channel)) (named .before .before .block-refusal .ensures)))
     (whole .first4 .ensures
     ∙ ap₂ first (whole .before .before .short .ensures ∙ ap (λ (b : Block). shortOf (args .given) (b .size) 2) (whole .before .before .before .block-of .ensures)) (whole .before .unfinished-refusal .ensures)))

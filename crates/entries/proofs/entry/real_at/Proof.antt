@@ -1,20 +1,20 @@
 -- `entries::entry::real_at` meets its contract. Assumes nothing.
-use mathlib.Core.Path.{_≡_, sym, _∙_}
+use mathlib.Core.Path.{_≡_, sym, ap, _∙_}
 use Prim.Native.Nat.{_-_}
 use denote.Ref.{now}
 use Rattle.bits.specs.Bits.{stretch}
-use Rattle.numbers.specs.declared.Real.the-variants.{Is}
-use Rattle.numbers.specs.Reals.{realIn}
-use Rattle.entries.proofs.Readings.{real-read, real-same, real-not}
+use Rattle.numbers.specs.Reals.{realValue, realIn}
+use Rattle.entries.proofs.Readings.{real-read}
 use borrow.Author.Needs.{needs}
 use Rattle.entries.proofs.entry.real_at.Statement.{statement}
 use Rattle.entries.proofs.entry.real_at.Tie as tie
 
--- what the call gives
-reads : (c : tie.After-read-real) → let a = c .before .before .before .args in c .read-real .result ≡ Is (realIn (a .n) (a .m) (stretch (now (a .block)) (a .place - 1) (a .n)))
+-- what the call gives; the code takes its value, as the paper reads it
+reads : (c : tie.After-read-real)
+    → let a = c .before .before .before .args in realValue (c .read-real .result) ≡ realIn (a .n) (a .m) (stretch (now (a .block)) (a .place - 1) (a .n))
 reads c =
     let start = c .before .before .before in
-    c .read-real .ensures ∙ real-read (now (start .args .block)) (start .args .place) (start .args .n) (start .pre .0) (start .pre .1) (start .args .m) (start .pre .2)
+    real-read (now (start .args .block)) (start .args .place) (start .args .n) (start .pre .0) (start .pre .1) (start .args .m) _ (start .pre .2) (c .read-real .ensures)
 
 sub-at : tie.Need-sub-at
 sub-at c = search needs
@@ -41,10 +41,10 @@ enum-told : tie.Need-enum-told
 enum-told c = search needs
 
 returns : tie.Need-returns
-returns c = real-same _ _ (sym (c .before .r .given .1) ∙ reads (c .before .before .before))
+returns c = ap realValue (sym (c .before .r .given .1)) ∙ reads (c .before .before .before)
 
 returns-2 : tie.Need-returns-2
-returns-2 c = absurd (real-not _ _ (sym (c .enum-told .given .1) ∙ reads (c .before .before)))
+returns-2 c = ap realValue (sym (c .enum-told .given .1)) ∙ reads (c .before .before)
 
 pub real-at-spec : {M : Type 1} → statement M
 real-at-spec =

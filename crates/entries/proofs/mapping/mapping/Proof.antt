@@ -6,11 +6,11 @@ use denote.Ref.{now}
 use lib.ListN.{length}
 use Rattle.refusals.specs.Refusals.{first, outsideOf}
 use Rattle.refusals.proofs.Words.{none-first, none-second, inside}
-use Rattle.refusals.proofs.Given.{given-some, given-none}
+use Rattle.refusals.proofs.Says.{says-some, says-none}
 use Rattle.blocks.specs.Blocks.{blocks, blockOf, mapping}
-use Rattle.entries.specs.declared.mapping.Mapped.the-variants.{Is, Refused}
-use Rattle.entries.specs.Entries.{entryRefusal, gridRefusal, mappingRefusal, mappingAnswer}
+use Rattle.entries.specs.Entries.{entryRefusal, gridRefusal, mappingRefusal}
 use Rattle.entries.proofs.Known.{given}
+use Rattle.entries.proofs.Settled.{points}
 use borrow.Author.Needs.{needs}
 use Rattle.entries.proofs.mapping.mapping.Statement.{statement}
 use Rattle.entries.proofs.mapping.mapping.Tie as tie
@@ -49,15 +49,13 @@ entry-refusal-requires : tie.Need-entry-refusal-requires
 entry-refusal-requires c κs = search needs
 
 returns : tie.Need-returns
-unfolding mappingAnswer
-returns c = given-some Refused _ _ _ (refusal (c .before)) (c .if1 .taken)
+returns c = says-some points _ _ _ (refusal (c .before)) (c .if1 .taken)
 
 grid-at-requires : tie.Need-grid-at-requires
 grid-at-requires c κs = asks c
 
 returns-2 : tie.Need-returns-2
-unfolding mappingAnswer
-returns-2 c = given-none Refused _ _ _ _ (refusal (c .before .before)) (c .before .if1 .left) (ap Is (c .grid-at .ensures))
+returns-2 c = says-none points _ _ _ _ (refusal (c .before .before)) (c .before .if1 .left) (c .grid-at .ensures)
 
 pub mapping-spec : {M : Type 1} → statement M
 mapping-spec =

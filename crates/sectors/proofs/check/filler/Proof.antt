@@ -3,14 +3,14 @@ use mathlib.Core.Path.{sym, ap, subst, _∙_}
 use denote.Ref.{now}
 use lib.ListN.{length}
 use borrow.Author.Needs.{needs}
-use Rattle.refusals.proofs.Given.{given-some, given-none}
+use Rattle.refusals.proofs.Says.{says-some, says-none}
 use Rattle.bits.specs.Bits.{bitsOf}
 use Rattle.sectors.specs.declared.layout.Layout.{Layout}
-use Rattle.sectors.specs.declared.check.Counted.the-variants.{Set, Refused}
 use Rattle.sectors.specs.Layout.{Sound}
 use Rattle.sectors.specs.Sector.{fillerOf}
-use Rattle.sectors.specs.Calls.{fillerAnswer}
+use Rattle.sectors.specs.Calls.{fillerRefusal}
 use Rattle.sectors.proofs.Admitted.{Admitted, admitted}
+use Rattle.sectors.proofs.Settled.{counted}
 use Rattle.sectors.proofs.Table.{sound}
 use Rattle.sectors.proofs.check.filler.Statement.{statement}
 use Rattle.sectors.proofs.check.filler.Tie as tie
@@ -22,8 +22,8 @@ line-refusal-requires : tie.Need-line-refusal-requires
 line-refusal-requires c κs = search needs
 
 returns : tie.Need-returns
-unfolding fillerAnswer
-returns c = given-some Refused _ _ _ (c .before .line-refusal .ensures) (c .if1 .taken)
+unfolding fillerRefusal
+returns c = says-some counted _ _ _ (c .before .line-refusal .ensures) (c .if1 .taken)
 
 layout-of-requires : tie.Need-layout-of-requires
 layout-of-requires c κs =
@@ -34,11 +34,11 @@ count-filler-requires c κs =
     let h = admit (c .before) in (subst Sound (sym (c .layout-of .ensures)) (sound _ (h .low) (h .high)), h .long)
 
 returns-2 : tie.Need-returns-2
-unfolding fillerAnswer
+unfolding fillerRefusal
 returns-2 c =
     let found = c .before .before in
     let b = bitsOf (now (found .before .before .before .args .line)) in
-    given-none Refused _ _ _ _ (found .before .line-refusal .ensures) (found .if1 .left) (ap Set (c .count-filler .ensures ∙ ap (λ (l : Layout). fillerOf l b) (c .before .layout-of .ensures)))
+    says-none counted _ _ _ _ (found .before .line-refusal .ensures) (found .if1 .left) (c .count-filler .ensures ∙ ap (λ (l : Layout). fillerOf l b) (c .before .layout-of .ensures))
 
 pub filler-spec : {M : Type 1} → statement M
 filler-spec =

@@ -1,8 +1,11 @@
 -- `stamps::decimals::bcd_in` meets its contract. Assumes nothing.
-use mathlib.Core.Path.{ap, _∙_}
+use mathlib.Core.List.{List}
+use mathlib.Core.Path.{subst}
+use Prim.Native.Nat.{ℕ}
 use borrow.Author.Needs.{needs}
 use denote.Ref.{now}
-use Rattle.numbers.specs.Decimals.{readBcdAnswer}
+use Rattle.numbers.specs.Decimals.{ReadBcdOk}
+use Rattle.numbers.proofs.Settled.{read-bcd-is}
 use Rattle.stamps.specs.Decimals.{bcdIn}
 use Rattle.stamps.proofs.Parts.{behind}
 use Rattle.stamps.proofs.decimals.bcd_in.Statement.{statement}
@@ -22,7 +25,9 @@ read-bcd-requires c κs = search needs
 
 returns : tie.Need-returns
 unfolding bcdIn
-returns c = c .read-bcd .ensures ∙ ap (readBcdAnswer _) (behind (now (c .before .before .before .args .bytes)) (c .before .before .before .args .at))
+returns c =
+    let a = c .before .before .before .args in
+    read-bcd-is _ _ _ (subst (λ (l : List ℕ). ReadBcdOk (a .n) l (c .read-bcd .result)) (behind (now (a .bytes)) (a .at)) (c .read-bcd .ensures))
 
 pub bcd-in-spec : {M : Type 1} → statement M
 bcd-in-spec = tie.close (tie.spec sub-read-bcd part-read-bcd-start part-read-bcd-end read-bcd-requires returns)

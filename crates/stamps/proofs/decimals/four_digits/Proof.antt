@@ -5,8 +5,9 @@ use borrow.Author.Needs.{needs}
 use denote.Ref.{now}
 use lib.Dec.{lit<}
 use Rattle.numbers.specs.declared.Bcd.the-variants.{Is}
+use Rattle.numbers.specs.Decimals.{bcdValue}
 use Rattle.numbers.proofs.Answers.{bcd-lt}
-use Rattle.stamps.specs.Decimals.{bcdValue, bcdIn, bcdAt}
+use Rattle.stamps.specs.Decimals.{bcdIn, bcdAt}
 use Rattle.stamps.proofs.decimals.four_digits.Statement.{statement}
 use Rattle.stamps.proofs.decimals.four_digits.Tie as tie
 

@@ -1,0 +1,13 @@
+-- `player::start` meets its contract. Assumes nothing.
+use borrow.Author.Needs.{needs}
+use Rattle.player.proofs.start.Statement.{statement}
+use Rattle.player.proofs.start.Tie as tie
+
+fresh-requires : tie.Need-fresh-requires
+fresh-requires c κs = search needs
+
+returns : tie.Need-returns
+returns c = rw (c .fresh .ensures) (search needs)
+
+pub start-spec : {M : Type 1} → statement M
+start-spec = tie.close (tie.spec fresh-requires returns)

@@ -1,0 +1,93 @@
+-- ONE CALL of a run across the boundary, with a record that a call gave: it is the reader's call with the same buffer, and what it
+-- brings is what the reader's call brings. Assumes nothing.
+use mathlib.Core.Bool.{Bool, true, false, cond, false≢true, true≢false}
+use mathlib.Core.List.{List}
+use mathlib.Core.Path.{_≡_, refl, sym, ap, _∙_}
+use Prim.Native.Nat.{ℕ, zero, _<_}
+use native.Mathlib.Omega.{arith}
+use Rattle.reader_bits.specs.Call.{Call, more, whole}
+use Rattle.reader_bits.specs.Phase.{Bench}
+use Rattle.reader_record.specs.declared.State.{State}
+use Rattle.reader.specs.declared.Answer.{Answer}
+use Rattle.reader.specs.declared.Answer.the-variants.{Refused, More, Line}
+use Rattle.reader.specs.Read.{readAnswer, readLeft, callOf, callAnswer}
+use Rattle.cuts.specs.Driven.{lentFor}
+use Rattle.cuts.proofs.Cases.{read-cases}
+use Rattle.rack_recording.specs.declared.ReaderState.{ReaderState}
+use Rattle.rack_recording.specs.declared.ReadAnswer.{ReadAnswer}
+use Rattle.rack_recording.specs.Recording.{keptOf, refusedRead, readGiven, readOf, lineLeft}
+use Rattle.rack.specs.Run.{lentAt}
+use Rattle.rack.proofs.Records.{kept-flag, read-through, line-through}
+
+-- no refusal has the number 0
+refused-some : (f : ℕ) (s : State) (p buf : List ℕ) (n : ℕ) → readAnswer f s p buf ≡ Refused n → zero < n
+refused-some f s p buf =
+    read-cases f s p buf (λ (a : Answer) (b : List ℕ). (n : ℕ) → a ≡ Refused n → zero < n)
+    (λ m h n e. let z : m ≡ n = cc in omega arith)
+    (λ h l n e. let z : _≡_ {A = ℕ} 0 1 = cc in absurd (omega arith))
+    (λ h m l n e. go (callOf s p buf) n e)
+  where
+    go : (c : Call Bench) (n : ℕ) → callAnswer c ≡ Refused n → zero < n
+    go (more t b m v) n e = let z : _≡_ {A = ℕ} 0 1 = cc in absurd (omega arith)
+    go (whole t b m v) n e = let z : _≡_ {A = ℕ} 0 1 = cc in absurd (omega arith)
+
+-- an answer that is not refused, by whether a line is complete
+abbrev pub answerBy : Bool → ℕ → State → Answer
+answerBy false t s = More t s
+answerBy true t s = Line t s
+
+record Came (complete : Bool) (x : Answer) : Type 0 where
+  taken : ℕ
+  after : State
+  is : x ≡ answerBy complete taken after
+
+came : (complete : Bool) (was : ReaderState) (x : Answer) → ((n : ℕ) → x ≡ Refused n → zero < n) → readGiven was x .refused ≡ 0 → readGiven was x .complete ≡ complete → Came complete x
+unfolding readGiven refusedRead
+came complete was (Refused n) some none c = let h = some n refl in absurd (omega arith)
+came false was (More t s) some none c = record { taken = t; after = s; is = refl }
+came true was (More t s) some none c = absurd (false≢true c)
+came false was (Line t s) some none c = absurd (true≢false c)
+came true was (Line t s) some none c = record { taken = t; after = s; is = refl }
+
+brought : (complete : Bool) (was : ReaderState) (t : ℕ) (s : State) → readGiven was (answerBy complete t s) ≡ record { refused = 0; complete = complete; taken = t; state = keptOf s }
+unfolding readGiven
+brought false was t s = refl
+brought true was t s = refl
+
+module _ (f : ℕ) (lend : ℕ → List ℕ → List ℕ) where
+  -- the two callers lend the same buffer
+  pub lent-same : (k : ℕ) (s : State) (r : ReaderState) (buf : List ℕ) → r ≡ keptOf s → lentAt lend k r buf ≡ lentFor lend k s buf
+  lent-same k s r buf e = ap (λ (x : ReaderState). lentAt lend k x buf) e ∙ ap (λ (b : Bool). cond b buf (lend k buf)) (kept-flag s)
+
+  -- what the call across the boundary is
+  given-same : (k : ℕ) (s : State) (r : ReaderState) (p buf : List ℕ) → r ≡ keptOf s
+      → readOf f r p (lentAt lend k r buf) ≡ readGiven (keptOf s) (readAnswer f s p (lentFor lend k s buf))
+  given-same k s r p buf e = ap (readOf f r p) (lent-same k s r buf e) ∙ ap (λ (x : ReaderState). readOf f x p (lentFor lend k s buf)) e ∙ read-through f s p (lentFor lend k s buf)
+
+  pub left-same : (k : ℕ) (s : State) (r : ReaderState) (p buf : List ℕ) → r ≡ keptOf s → lineLeft f r p (lentAt lend k r buf) ≡ readLeft f s p (lentFor lend k s buf)
+  left-same k s r p buf e = ap (lineLeft f r p) (lent-same k s r buf e) ∙ ap (λ (x : ReaderState). lineLeft f x p (lentFor lend k s buf)) e ∙ line-through f s p (lentFor lend k s buf)
+
+  pub given-by : (complete : Bool) (k : ℕ) (s : State) (r : ReaderState) (p buf : List ℕ) (t : ℕ) (s′ : State) → r ≡ keptOf s
+      → readAnswer f s p (lentFor lend k s buf) ≡ answerBy complete t s′
+      → readOf f r p (lentAt lend k r buf) ≡ record { refused = 0; complete = complete; taken = t; state = keptOf s′ }
+  given-by complete k s r p buf t s′ i e = given-same k s r p buf i ∙ ap (readGiven (keptOf s)) e ∙ brought complete (keptOf s) t s′
+
+  -- a call that is not refused, on both sides
+  pub record Both (complete : Bool) (k : ℕ) (s : State) (r : ReaderState) (p buf : List ℕ) : Type 0 where
+    pub taken : ℕ
+    pub after : State
+    pub is : readAnswer f s p (lentFor lend k s buf) ≡ answerBy complete taken after
+    pub took : readOf f r p (lentAt lend k r buf) .taken ≡ taken
+    pub brings : readOf f r p (lentAt lend k r buf) .state ≡ keptOf after
+
+  pub both : (complete : Bool) (k : ℕ) (s : State) (r : ReaderState) (p buf : List ℕ) → r ≡ keptOf s
+      → readOf f r p (lentAt lend k r buf) .refused ≡ 0 → readOf f r p (lentAt lend k r buf) .complete ≡ complete → Both complete k s r p buf
+  both complete k s r p buf i none c =
+      let a = given-same k s r p buf i in
+      by (came complete (keptOf s) (readAnswer f s p (lentFor lend k s buf)) (refused-some f s p (lentFor lend k s buf))
+      (ap (λ (y : ReadAnswer). y .refused) (sym a) ∙ none) (ap (λ (y : ReadAnswer). y .complete) (sym a) ∙ c))
+    where
+      by : Came complete (readAnswer f s p (lentFor lend k s buf)) → Both complete k s r p buf
+      by h =
+          let e = given-by complete k s r p buf (h .taken) (h .after) i (h .is) in
+          record { taken = h .taken; after = h .after; is = h .is; took = ap (λ (y : ReadAnswer). y .taken) e; brings = ap (λ (y : ReadAnswer). y .state) e }

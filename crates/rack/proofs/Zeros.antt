@@ -1,0 +1,190 @@
+-- THE LIST `Zeros`, row by row: an answer that was asked for has the number 0. Assumes nothing.
+use mathlib.Core.Bool.{Bool, false}
+use mathlib.Core.List.{List}
+use mathlib.Core.Path.{_≡_, refl, ap, ap₂, _∙_}
+use Prim.Native.Nat.{ℕ, zero, suc, _<_}
+use native.Mathlib.Nat.{zero-lt-suc}
+use lib.ListN.{length, replicate}
+use Rattle.refusals.specs.Refusals.{kept, answered}
+use Rattle.refusals.proofs.Words.{kept-some}
+use Rattle.formats.specs.declared.FormatAnswer as formats
+use Rattle.formats.specs.declared.FormatAnswer.the-variants as format
+use Rattle.scramble.specs.Step.{stepRefusal, stepAnswer, registerLeft}
+use Rattle.scramble.specs.Register.{newBit, nextRegister}
+use Rattle.scramble.specs.declared.StepBit.the-variants as step
+use Rattle.sync.specs.declared.SyncPut.{SyncPut}
+use Rattle.sync.specs.declared.SyncPut.the-variants as sync
+use Rattle.writer.specs.declared.Written.{Written}
+use Rattle.writer.specs.declared.Written.the-variants as written
+use Rattle.sectors.specs.Calls.{answersRefusal, answersAnswer}
+use Rattle.sectors.specs.declared.check.Counted.{Counted}
+use Rattle.sectors.specs.declared.check.Counted.the-variants as counted
+use Rattle.visible.specs.declared.strip.Stripped.{Stripped}
+use Rattle.visible.specs.declared.strip.Stripped.the-variants as stripped
+use Rattle.numbers.specs.declared.Integer.{Integer}
+use Rattle.numbers.specs.declared.Integer.the-variants as integer
+use Rattle.numbers.specs.declared.Bcd.{Bcd}
+use Rattle.numbers.specs.declared.Bcd.the-variants as bcd
+use Rattle.numbers.specs.declared.Real.{Real}
+use Rattle.numbers.specs.declared.Real.the-variants as real
+use Rattle.numbers.specs.declared.Float.{Float}
+use Rattle.numbers.specs.declared.Float.the-variants as float
+use Rattle.document.specs.declared.modes.Scan.{Scan}
+use Rattle.document.specs.declared.modes.Scan.the-variants as scan
+use Rattle.document.specs.declared.modes.Scanner.{Scanner}
+use Rattle.document.specs.declared.modes.Scanner.the-variants as scanner
+use Rattle.document.specs.declared.segments.SubCommutation.{SubCommutation}
+use Rattle.document.specs.declared.segments.SubCommutation.the-variants as sub
+use Rattle.document_stamps.specs.declared.lines.Numbered.{Numbered}
+use Rattle.document_stamps.specs.declared.lines.Numbered.the-variants as numbered
+use Rattle.document_stamps.specs.declared.dates.Dated.{Dated}
+use Rattle.document_stamps.specs.declared.dates.Dated.the-variants as dated
+use Rattle.segments.specs.declared.Added.{Added}
+use Rattle.segments.specs.declared.Added.the-variants as added
+use Rattle.entries.specs.declared.mapping.Mapped.{Mapped}
+use Rattle.entries.specs.declared.mapping.Mapped.the-variants as mapped
+use Rattle.entries.specs.declared.orbit.Orbital.{Orbital}
+use Rattle.entries.specs.declared.orbit.Orbital.the-variants as orbital
+use Rattle.rack_number.specs.Number.{countGiven, integerGiven, bcdGiven, realGiven, floatGiven}
+use Rattle.rack_ground.specs.Ground.{formatGiven, stepGiven, syncGiven}
+use Rattle.rack_recording.specs.declared.ReaderState.{ReaderState}
+use Rattle.rack_recording.specs.declared.ReadAnswer.{ReadAnswer}
+use Rattle.rack_recording.specs.Recording.{readOf, writtenGiven}
+use Rattle.rack_sector.specs.Sector.{twelveGiven, fillerGiven, stripGiven}
+use Rattle.rack_document.specs.Documentation.{nameGiven, scanGiven, scannerGiven, linesGiven, dateGiven, segmentGiven}
+use Rattle.rack_blocks.specs.Assembly.{addGiven, gridGiven, orbitGiven}
+use Rattle.rack.specs.Zeros.{FormatAlone, CountAlone, TwelveAlone, StripAlone, IntegerAlone, BcdAlone, RealAlone, FloatAlone, NameAlone, LinesAlone, DateAlone, SegmentAlone, GridAlone, OrbitAlone, StepBack, ReadBack, AddBack, Zeros}
+use Rattle.rack.proofs.Records.{read-refused}
+
+format-row : (a : formats.FormatAnswer) → FormatAlone (formatGiven a)
+unfolding formatGiven
+format-row (format.Is f) h = absurd (h refl)
+format-row (format.Refused n) h = refl
+
+sync-row : (a : SyncPut) → CountAlone (syncGiven a)
+unfolding syncGiven countGiven
+sync-row (sync.Put k) h = absurd (h refl)
+sync-row (sync.Refused n) h = refl
+
+written-row : (a : Written) → CountAlone (writtenGiven a)
+unfolding writtenGiven countGiven
+written-row (written.Put k) h = absurd (h refl)
+written-row (written.Refused n) h = refl
+
+filler-row : (a : Counted) → CountAlone (fillerGiven a)
+unfolding fillerGiven countGiven
+filler-row (counted.Set k) h = absurd (h refl)
+filler-row (counted.Refused n) h = refl
+
+strip-row : (a : Stripped) → StripAlone (stripGiven a)
+unfolding stripGiven
+strip-row (stripped.Parts k) h = absurd (h refl)
+strip-row (stripped.Refused n) h = refl
+
+integer-row : (a : Integer) → IntegerAlone (integerGiven a)
+unfolding integerGiven
+integer-row (integer.Is k) h = absurd (h refl)
+integer-row (integer.Refused n) h = refl
+
+bcd-row : (a : Bcd) → BcdAlone (bcdGiven a)
+unfolding bcdGiven
+bcd-row (bcd.Is k) h = absurd (h refl)
+bcd-row (bcd.Refused n) h = refl
+
+real-row : (a : Real) → RealAlone (realGiven a)
+unfolding realGiven
+real-row (real.Is k) h = absurd (h refl)
+real-row (real.Refused n) h = refl
+
+float-row : (a : Float) → FloatAlone (floatGiven a)
+unfolding floatGiven
+float-row (float.Is k) h = absurd (h refl)
+float-row (float.Refused n) h = refl
+
+scan-row : (a : Scan) → NameAlone (scanGiven a)
+unfolding scanGiven nameGiven
+scan-row (scan.Is k) h = absurd (h refl)
+scan-row (scan.Refused n) h = refl
+
+scanner-row : (a : Scanner) → NameAlone (scannerGiven a)
+unfolding scannerGiven nameGiven
+scanner-row (scanner.Is k) h = absurd (h refl)
+scanner-row (scanner.Refused n) h = refl
+
+lines-row : (a : Numbered) → LinesAlone (linesGiven a)
+unfolding linesGiven
+lines-row (numbered.Is k) h = absurd (h refl)
+lines-row (numbered.Refused n) h = refl
+
+date-row : (a : Dated) → DateAlone (dateGiven a)
+unfolding dateGiven
+date-row (dated.Is k) h = absurd (h refl)
+date-row (dated.Refused n) h = refl
+
+segment-row : (a : SubCommutation) → SegmentAlone (segmentGiven a)
+unfolding segmentGiven
+segment-row (sub.Is s k) h = absurd (h refl)
+segment-row (sub.Refused n) h = refl
+
+grid-row : (a : Mapped) → GridAlone (gridGiven a)
+unfolding gridGiven
+grid-row (mapped.Is k) h = absurd (h refl)
+grid-row (mapped.Refused n) h = refl
+
+orbit-row : (a : Orbital) → OrbitAlone (orbitGiven a)
+unfolding orbitGiven
+orbit-row (orbital.Is k) h = absurd (h refl)
+orbit-row (orbital.Refused n) h = refl
+
+add-row : (marks : ℕ) (a : Added) → AddBack marks (addGiven marks a)
+unfolding addGiven
+add-row marks (added.Is p) h = absurd (h refl)
+add-row marks (added.Refused n) h = refl
+
+step-row : (register : ℕ) → StepBack register (stepGiven (stepAnswer register) (registerLeft register))
+unfolding stepGiven stepAnswer registerLeft answered kept
+step-row register = go (stepRefusal register)
+  where
+    go : (k : ℕ) → StepBack register (stepGiven (answered step.Refused k (step.Bit (newBit register))) (kept k register (nextRegister register)))
+    go zero h = absurd (h refl)
+    go (suc k) h = refl
+
+twelve-row : (f : ℕ) (line : List ℕ) → TwelveAlone (twelveGiven (answersAnswer f line))
+unfolding twelveGiven answersAnswer
+twelve-row f line h = ap (λ (l : List ℕ). record { refused = answersRefusal f (length line); answers = l }) (kept-some (answersRefusal f (length line)) (replicate 12 0) _ h)
+
+parts : (a : ReadAnswer) (b : Bool) (t : ℕ) (s : ReaderState) → a .complete ≡ b → a .taken ≡ t → a .state ≡ s → a ≡ record { refused = a .refused; complete = b; taken = t; state = s }
+parts a b t s p q r =
+    ap₂ (λ (x : Bool) (y : ℕ). record { refused = a .refused; complete = x; taken = y; state = a .state }) p q
+    ∙ ap (λ (z : ReaderState). record { refused = a .refused; complete = b; taken = t; state = z }) r
+
+read-row : (f : ℕ) (s : ReaderState) (piece line : List ℕ) → ReadBack s (readOf f s piece line)
+read-row f s piece line h = let u = read-refused f s piece line (some (readOf f s piece line .refused) h) in parts (readOf f s piece line) false 0 s (u .none-complete) (u .taken-none) (u .given-back)
+  where
+    some : (n : ℕ) → (n ≡ 0 → ⊥) → zero < n
+    some zero h = absurd (h refl)
+    some (suc n) h = zero-lt-suc n
+
+pub zeros : Zeros
+zeros = record {
+  format-of = format-row;
+  step = step-row;
+  put-sync = sync-row;
+  read = read-row;
+  write-line = written-row;
+  filler = filler-row;
+  answers = twelve-row;
+  strip = strip-row;
+  integer = integer-row;
+  bcd = bcd-row;
+  real = real-row;
+  float = float-row;
+  scan-mode = scan-row;
+  scanner-select = scanner-row;
+  line-numbers = lines-row;
+  date = date-row;
+  sub-commutation = segment-row;
+  add-segment = add-row;
+  mapping = grid-row;
+  elements = orbit-row;
+}
