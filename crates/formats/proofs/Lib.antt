@@ -1,2 +1,2 @@
-pub mod Which
 pub mod Settled
+pub mod Which

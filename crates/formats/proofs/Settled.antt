@@ -1,24 +1,53 @@
 -- The answer to a format number is settled by what the paper reads in it: the number of its refusal, and the format. Assumes nothing.
-use mathlib.Core.Path.{_≡_, refl, sym, ap, _∙_}
+use mathlib.Core.Bool.{Bool, true, false, cond, not, _&&_}
+use mathlib.Core.Path.{_≡_, refl, sym, _∙_}
 use Prim.Native.Nat.{ℕ}
-use Rattle.refusals.specs.Refusals.{Genuine}
-use Rattle.formats.specs.Formats.{formatOf, formatNumber, formatIn, FormatOk}
+use native.Mathlib.Omega.{arith}
+use lib.Dec.{eqb}
+use Rattle.refusals.specs.Refusals.{when, answered, kept}
+use Rattle.refusals.proofs.Says.{Kind, says-of, says-is}
+use Rattle.formats.specs.Formats.{svissr, hirid, formatOf, unknown, formatRefusal, noFormat, namedBy, formatNumber, formatIn, FormatOk}
+use Rattle.formats.specs.declared.Format.{Format}
 use Rattle.formats.specs.declared.FormatAnswer.{FormatAnswer}
 use Rattle.formats.specs.declared.FormatAnswer.the-variants.{Is, Refused}
-use Rattle.formats.proofs.Which.{number-of, format-of, some-number}
 
--- the answer by number and format
-told : (n : ℕ) (a : FormatAnswer) → formatOf n ≡ a → FormatOk n a
-told n a e = (ap formatNumber (sym e) ∙ number-of n, ap formatIn (sym e) ∙ format-of n, λ z. some-number n 0 (e ∙ z) refl)
-
-pub format-told : (n : ℕ) (r : FormatAnswer) → r ≡ formatOf n → FormatOk n r
-format-told n r e = told n r (sym e)
-
-pub format-is : (n : ℕ) (r : FormatAnswer) → FormatOk n r → r ≡ formatOf n
-format-is n r s = same r (formatOf n) (s .0 ∙ sym (number-of n)) (s .1 ∙ sym (format-of n)) (s .2) (told n (formatOf n) refl .2)
+named : Kind Refused Is formatNumber formatIn noFormat
+named = record {
+  number-refused = λ n. refl;
+  number-given = λ f. refl;
+  value-refused = λ n. refl;
+  value-given = λ f. refl;
+  apart = λ f e. let z : _≡_ {A = ℕ} 0 1 = cc in let w : ⊥ = omega arith in w;
+  either = each;
+}
   where
-    same : (r a : FormatAnswer) → formatNumber r ≡ formatNumber a → formatIn r ≡ formatIn a → Genuine Refused r → Genuine Refused a → r ≡ a
-    same (Is f) (Is g) p q h i = ap Is q
-    same (Is f) (Refused k) p q h i = absurd (i (ap Refused (sym p)))
-    same (Refused n) (Is g) p q h i = absurd (h (ap Refused p))
-    same (Refused n) (Refused k) p q h i = ap Refused p
+    each : (P : FormatAnswer → Type 0) → ((n : ℕ) → P (Refused n)) → ((f : Format) → P (Is f)) → (r : FormatAnswer) → P r
+    each P p q (Is f) = q f
+    each P p q (Refused n) = p n
+
+module _ (n : ℕ) where
+  -- the answer by number and format
+  formed : formatOf n ≡ answered Refused (formatRefusal n) (Is (namedBy n))
+  unfolding formatRefusal unknown namedBy when answered
+  formed = go (eqb n 1) (eqb n 2)
+    where
+      go : (a b : Bool) → cond a (Is svissr) (cond b (Is hirid) (Refused 1)) ≡ answered Refused (when (not a && not b) 1) (Is (cond a svissr (cond b hirid noFormat)))
+      go true b = refl
+      go false true = refl
+      go false false = refl
+
+  -- a number that is refused names no format
+  none-named : namedBy n ≡ kept (formatRefusal n) noFormat (namedBy n)
+  unfolding formatRefusal unknown namedBy when kept
+  none-named = go (eqb n 1) (eqb n 2)
+    where
+      go : (a b : Bool) → cond a svissr (cond b hirid noFormat) ≡ kept (when (not a && not b) 1) noFormat (cond a svissr (cond b hirid noFormat))
+      go true b = refl
+      go false true = refl
+      go false false = refl
+
+  pub format-told : (r : FormatAnswer) → r ≡ formatOf n → FormatOk n r
+  format-told r e = let h = says-of named r (formatRefusal n) (namedBy n) (e ∙ formed) in (h .0, h .1 ∙ sym none-named, h .2)
+
+  pub format-is : (r : FormatAnswer) → FormatOk n r → r ≡ formatOf n
+  format-is r s = says-is named (formatRefusal n) (namedBy n) r (s .0, s .1 ∙ none-named, s .2) ∙ sym formed

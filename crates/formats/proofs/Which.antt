@@ -1,6 +1,6 @@
 -- There are two formats, and in both every part of a line is a whole number of bytes. Assumes nothing.
 use mathlib.Core.Path.{_≡_, refl, sym, ap, _∙_, subst}
-use mathlib.Core.Bool.{Bool, true, false, cond, not, _&&_}
+use mathlib.Core.Bool.{Bool, true, false, cond}
 use mathlib.Core.Logic.{_⊎_, inl, inr, ⊎-elim}
 use Prim.Native.Nat.{ℕ, _+_, _*_, _/_, _<_}
 use native.Mathlib.Omega.{arith}
@@ -9,6 +9,7 @@ use Rattle.refusals.specs.Refusals.{when}
 use Rattle.formats.specs.Formats.{svissr, hirid, formatOf, unknown, formatNumber, formatRefusal, noFormat, formatIn, namedBy, checkStart, informationBits, lineBytes}
 use Rattle.formats.specs.declared.Format.{Format}
 use Rattle.formats.specs.declared.FormatAnswer.the-variants.{Is, Refused}
+use Rattle.formats.proofs.Settled.{format-told}
 
 -- a number that names a format names one of the two
 pub which : (n : ℕ) (f : Format) → formatOf n ≡ Is f → (f ≡ svissr) ⊎ (f ≡ hirid)
@@ -40,26 +41,6 @@ either P p q n f e = ⊎-elim (λ (h : f ≡ svissr). subst P (sym h) p) (λ (h 
 pub parts : (n : ℕ) (f : Format) → formatOf n ≡ Is f → Parts f
 parts = either Parts parts-1 parts-2
 
--- ---- the answer to a number, and what it says
-
-pub number-of : (n : ℕ) → formatNumber (formatOf n) ≡ formatRefusal n
-unfolding formatRefusal unknown when
-number-of n = go (eqb n 1) (eqb n 2)
-  where
-    go : (a b : Bool) → formatNumber (cond a (Is svissr) (cond b (Is hirid) (Refused 1))) ≡ when (not a && not b) 1
-    go true b = refl
-    go false true = refl
-    go false false = refl
-
-pub format-of : (n : ℕ) → formatIn (formatOf n) ≡ namedBy n
-unfolding namedBy
-format-of n = go (eqb n 1) (eqb n 2)
-  where
-    go : (a b : Bool) → formatIn (cond a (Is svissr) (cond b (Is hirid) (Refused 1))) ≡ cond a svissr (cond b hirid noFormat)
-    go true b = refl
-    go false true = refl
-    go false false = refl
-
 -- ---- a number that is not refused
 
 pub record Named (n : ℕ) : Type 0 where
@@ -72,13 +53,13 @@ named n = go (eqb n 1) (eqb n 2) refl
     go : (a b : Bool) → formatOf n ≡ cond a (Is svissr) (cond b (Is hirid) (Refused 1)) → formatRefusal n ≡ 0 → Named n
     go true b is e = record { format = svissr; is = is }
     go false true is e = record { format = hirid; is = is }
-    go false false is e = absurd (let z : _≡_ {A = ℕ} 1 0 = sym (ap formatNumber is) ∙ number-of n ∙ e in let w : ⊥ = omega arith in w)
+    go false false is e = absurd (let z : _≡_ {A = ℕ} 1 0 = sym (ap formatNumber is) ∙ format-told n (formatOf n) refl .0 ∙ e in let w : ⊥ = omega arith in w)
 
 pub is-known : (n : ℕ) (f : Format) → formatOf n ≡ Is f → formatRefusal n ≡ 0
-is-known n f e = sym (number-of n) ∙ ap formatNumber e
+is-known n f e = sym (format-told n (formatOf n) refl .0) ∙ ap formatNumber e
 
 pub is-unknown : (n k : ℕ) → formatOf n ≡ Refused k → formatRefusal n ≡ k
-is-unknown n k e = sym (number-of n) ∙ ap formatNumber e
+is-unknown n k e = sym (format-told n (formatOf n) refl .0) ∙ ap formatNumber e
 
 -- 1 exactly where the number names none
 pub refused-when : (n : ℕ) → formatRefusal n ≡ when (unknown n) 1
@@ -86,16 +67,11 @@ unfolding formatRefusal
 refused-when n = refl
 
 pub named-by : (n : ℕ) (f : Format) → formatOf n ≡ Is f → namedBy n ≡ f
-named-by n f e = sym (format-of n) ∙ ap formatIn e
+named-by n f e = sym (format-told n (formatOf n) refl .1) ∙ ap formatIn e
 
 -- a number that names none is refused
 pub some-number : (n k : ℕ) → formatOf n ≡ Refused k → k ≡ 0 → ⊥
-some-number n k = go (eqb n 1) (eqb n 2)
-  where
-    go : (a b : Bool) → cond a (Is svissr) (cond b (Is hirid) (Refused 1)) ≡ Refused k → k ≡ 0 → ⊥
-    go true b e z = let w : _≡_ {A = ℕ} 0 1 = cc in let x : ⊥ = omega arith in x
-    go false true e z = let w : _≡_ {A = ℕ} 0 1 = cc in let x : ⊥ = omega arith in x
-    go false false e z = let w : _≡_ {A = ℕ} 1 0 = cc in let x : ⊥ = omega arith in x
+some-number n k e z = format-told n (formatOf n) refl .2 (e ∙ ap Refused z)
 
 -- ---- the start value of the check
 

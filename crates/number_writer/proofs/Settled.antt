@@ -1,29 +1,31 @@
 -- The answer to a write is settled by its number. Assumes nothing.
-use mathlib.Core.Path.{_≡_, refl, sym, ap, _∙_}
-use Prim.Native.Nat.{ℕ, zero, suc}
-use native.Mathlib.Nat.{suc-ne-zero}
+use mathlib.Core.Path.{_≡_, refl}
+use Prim.Native.Nat.{ℕ}
 use native.Mathlib.Omega.{arith}
-use Rattle.refusals.specs.Refusals.{answered, Genuine}
+use Rattle.refusals.proofs.Says.{Kind, says-of, says-is}
 use Rattle.number_writer.specs.declared.Put.{Put}
 use Rattle.number_writer.specs.declared.Put.the-variants.{Done, Refused}
 use Rattle.number_writer.specs.Written.{putNumber, putRealRefusal, putRealAnswer, PutRealOk}
 
-told : (k : ℕ) (r : Put) → r ≡ answered Refused k Done → (putNumber r ≡ k) × Genuine Refused r
-unfolding answered
-told zero r e = (ap putNumber e, λ z. let w : _≡_ {A = ℕ} 0 1 = cc in let v : ⊥ = omega arith in v)
-told (suc k) r e = (ap putNumber e, λ z. suc-ne-zero k (ap putNumber (sym e ∙ z)))
-
-settled : (k : ℕ) (r : Put) → (putNumber r ≡ k) × Genuine Refused r → r ≡ answered Refused k Done
-unfolding answered
-settled zero Done s = refl
-settled zero (Refused n) s = absurd (s .1 (ap Refused (s .0)))
-settled (suc k) Done s = absurd (suc-ne-zero k (sym (s .0)))
-settled (suc k) (Refused n) s = ap Refused (s .0)
+-- it has no value
+writes : Kind Refused (λ (v : Unit {0}). Done) putNumber (λ (r : Put). tt) tt
+writes = record {
+  number-refused = λ n. refl;
+  number-given = λ v. refl;
+  value-refused = λ n. refl;
+  value-given = λ v. refl;
+  apart = λ v e. let z : _≡_ {A = ℕ} 0 1 = cc in let w : ⊥ = omega arith in w;
+  either = each;
+}
+  where
+    each : (P : Put → Type 0) → ((n : ℕ) → P (Refused n)) → (Unit {0} → P Done) → (r : Put) → P r
+    each P p q Done = q tt
+    each P p q (Refused n) = p n
 
 pub put-real-told : (magnitude n m room : ℕ) (r : Put) → r ≡ putRealAnswer magnitude n m room → PutRealOk magnitude n m room r
 unfolding putRealAnswer
-put-real-told magnitude n m room = told (putRealRefusal magnitude n m room)
+put-real-told magnitude n m room r e = let h = says-of writes r (putRealRefusal magnitude n m room) tt e in (h .0, h .2)
 
 pub put-real-is : (magnitude n m room : ℕ) (r : Put) → PutRealOk magnitude n m room r → r ≡ putRealAnswer magnitude n m room
 unfolding putRealAnswer
-put-real-is magnitude n m room = settled (putRealRefusal magnitude n m room)
+put-real-is magnitude n m room r s = says-is writes (putRealRefusal magnitude n m room) tt r (s .0, refl, s .1)

@@ -1,13 +1,14 @@
--- THE ANSWER of `read` is settled by what the paper reads in it: the number, the bytes taken, whether a line is complete, and the
+-- THE ANSWER of `read` is settled by what the paper reads in it: the number; and whether a line is complete, the bytes taken, and the
 -- record. Assumes nothing.
-use mathlib.Core.Bool.{Bool, true, false, cond, true≢false, false≢true}
+use mathlib.Core.Bool.{Bool, true, false, cond}
 use mathlib.Core.List.{List}
-use mathlib.Core.Path.{_≡_, refl, sym, ap, ap₂, _∙_, subst}
+use mathlib.Core.Path.{_≡_, refl, sym, ap, _∙_}
 use Prim.Native.Nat.{ℕ, zero, suc}
 use native.Mathlib.Omega.{arith}
 use lib.Dec.{eqb}
 use lib.ListN.{length}
 use Rattle.refusals.specs.Refusals.{answered, kept, Genuine}
+use Rattle.refusals.proofs.Says.{Kind, says-of, says-is}
 use Rattle.reader_bits.specs.Call.{Call, more, whole}
 use Rattle.reader_bits.specs.Phase.{Bench}
 use Rattle.reader_record.specs.declared.State.{State}
@@ -15,67 +16,84 @@ use Rattle.reader.specs.Read.{callOf, callAnswer, callTaken, callWhole, 
 use Rattle.reader.specs.declared.Answer.{Answer}
 use Rattle.reader.specs.declared.Answer.the-variants.{Refused, More, Line}
 
--- ---- what an answer says
+-- whether a line is complete, the bytes taken, the record
+abbrev Values : Type 0
+Values = Bool × ℕ × State
 
--- number, bytes taken, complete, record, of a call from s
-record Says (s : State) (n t : ℕ) (b : Bool) (s′ : State) (r : Answer) : Type 0 where
-  number : refusalOf r ≡ n
-  taken : takenBy r ≡ t
-  complete : lineBy r ≡ b
-  state : stateBy s r ≡ s′
-  genuine : Genuine Refused r
+abbrev values : State → Answer → Values
+values s r = (lineBy r, takenBy r, stateBy s r)
 
--- no answer says what another says
-one : {s s′ : State} {n t : ℕ} {b : Bool} (r a : Answer) → Says s n t b s′ r → Says s n t b s′ a → r ≡ a
-one (Refused n) (Refused k) p q = ap Refused (p .number ∙ sym (q .number))
-one (Refused n) (More t s) p q = absurd (p .genuine (ap Refused (p .number ∙ sym (q .number))))
-one (Refused n) (Line t s) p q = absurd (p .genuine (ap Refused (p .number ∙ sym (q .number))))
-one (More t s) (Refused n) p q = absurd (q .genuine (ap Refused (q .number ∙ sym (p .number))))
-one (More t s) (More u z) p q = ap₂ More (p .taken ∙ sym (q .taken)) (p .state ∙ sym (q .state))
-one (More t s) (Line u z) p q = absurd (false≢true (p .complete ∙ sym (q .complete)))
-one (Line t s) (Refused n) p q = absurd (q .genuine (ap Refused (q .number ∙ sym (p .number))))
-one (Line t s) (More u z) p q = absurd (true≢false (p .complete ∙ sym (q .complete)))
-one (Line t s) (Line u z) p q = ap₂ Line (p .taken ∙ sym (q .taken)) (p .state ∙ sym (q .state))
+abbrev given : Values → Answer
+given v = cond (v .0) (Line (v .1) (v .2)) (More (v .1) (v .2))
 
--- ---- the call on the bits, one that is served, and one that may be refused
-
-not-more : (t : ℕ) (z : State) → Genuine Refused (More t z)
-not-more t z e = let w : _≡_ {A = ℕ} 0 1 = cc in let x : ⊥ = omega arith in x
-
-not-line : (t : ℕ) (z : State) → Genuine Refused (Line t z)
-not-line t z e = let w : _≡_ {A = ℕ} 0 1 = cc in let x : ⊥ = omega arith in x
-
-call-says : (s : State) (c : Call Bench) → Says s 0 (callTaken c) (callWhole c) (callState c) (callAnswer c)
-call-says s (more t b n v) = record { number = refl; taken = refl; complete = refl; state = refl; genuine = not-more t _ }
-call-says s (whole t b n v) = record { number = refl; taken = refl; complete = refl; state = refl; genuine = not-line t _ }
-
-served-says : (s : State) (piece buf : List ℕ) → Says s 0 (servedTaken s piece buf) (servedWhole s piece buf) (servedState s piece buf) (servedAnswer s piece buf)
-unfolding servedTaken servedWhole servedState servedAnswer
-served-says s piece buf = go (eqb (length piece) 0) (callOf s piece buf)
+reading : (s : State) → Kind Refused given refusalOf (values s) (false, 0, s)
+reading s = record {
+  number-refused = λ n. refl;
+  number-given = λ v. number (v .0) (v .1) (v .2);
+  value-refused = λ n. refl;
+  value-given = λ v. value (v .0) (v .1) (v .2);
+  apart = λ v. apart (v .0) (v .1) (v .2);
+  either = each;
+}
   where
-    go : (e : Bool) (c : Call Bench) → Says s 0 (cond e 0 (callTaken c)) (cond e false (callWhole c)) (cond e s (callState c)) (cond e (More 0 s) (callAnswer c))
-    go true c = record { number = refl; taken = refl; complete = refl; state = refl; genuine = not-more 0 s }
-    go false c = call-says s c
+    number : (b : Bool) (t : ℕ) (z : State) → refusalOf (given (b, t, z)) ≡ 0
+    number true t z = refl
+    number false t z = refl
 
-answer-says : (s : State) (k t : ℕ) (b : Bool) (s′ : State) (x : Answer) → Says s 0 t b s′ x → Says s k (kept k 0 t) (kept k false b) (kept k s s′) (answered Refused k x)
-unfolding kept answered
-answer-says s zero t b s′ x h = h
-answer-says s (suc k) t b s′ x h = record { number = refl; taken = refl; complete = refl; state = refl; genuine = λ e. let w : suc k ≡ 0 = cc in let z : ⊥ = omega arith in z }
+    value : (b : Bool) (t : ℕ) (z : State) → values s (given (b, t, z)) ≡ (b, t, z)
+    value true t z = refl
+    value false t z = refl
 
--- ---- the call
+    apart : (b : Bool) (t : ℕ) (z : State) → Genuine Refused (given (b, t, z))
+    apart true t z e = let w : _≡_ {A = ℕ} 0 1 = cc in let x : ⊥ = omega arith in x
+    apart false t z e = let w : _≡_ {A = ℕ} 0 1 = cc in let x : ⊥ = omega arith in x
+
+    each : (P : Answer → Type 0) → ((n : ℕ) → P (Refused n)) → ((v : Values) → P (given v)) → (r : Answer) → P r
+    each P p q (Refused n) = p n
+    each P p q (More t z) = q (false, t, z)
+    each P p q (Line t z) = q (true, t, z)
+
+same-values : {b c : Bool} {t u : ℕ} {y z : State} → b ≡ c → t ≡ u → y ≡ z → _≡_ {A = Values} (b, t, y) (c, u, z)
+same-values p q r = cc
 
 module _ (f : ℕ) (s : State) (piece buf : List ℕ) where
-  abbrev Told : Answer → Type 0
-  Told r =
-      Says s (readRefusal f s (length buf)) (kept (readRefusal f s (length buf)) 0 (servedTaken s piece buf)) (kept (readRefusal f s (length buf)) false (servedWhole s piece buf))
-      (kept (readRefusal f s (length buf)) s (servedState s piece buf)) r
+  -- what a call that is not refused gives
+  served : Values
+  served = (servedWhole s piece buf, servedTaken s piece buf, servedState s piece buf)
 
-  told : Told (readAnswer f s piece buf)
+  served-is : servedAnswer s piece buf ≡ given served
+  unfolding served servedTaken servedWhole servedState servedAnswer
+  served-is = go (eqb (length piece) 0) (callOf s piece buf)
+    where
+      go : (e : Bool) (c : Call Bench) → cond e (More 0 s) (callAnswer c) ≡ given (cond e false (callWhole c), cond e 0 (callTaken c), cond e s (callState c))
+      go true c = refl
+      go false (more t b n v) = refl
+      go false (whole t b n v) = refl
+
+  answer-is : readAnswer f s piece buf ≡ answered Refused (readRefusal f s (length buf)) (given served)
   unfolding readAnswer
-  told = answer-says s (readRefusal f s (length buf)) _ _ _ (servedAnswer s piece buf) (served-says s piece buf)
+  answer-is = ap (answered Refused (readRefusal f s (length buf))) served-is
+
+  -- the values one by one
+  parts : (k : ℕ) → _≡_ {A = Values} (kept k (false, 0, s) served) (kept k false (servedWhole s piece buf), kept k 0 (servedTaken s piece buf), kept k s (servedState s piece buf))
+  unfolding served kept
+  parts zero = refl
+  parts (suc k) = refl
 
   pub read-told : (r : Answer) → r ≡ readAnswer f s piece buf → ReadOk f s piece buf r
-  read-told r e = let h = subst Told (sym e) told in record { number = h .number; taken = h .taken; complete = h .complete; state = h .state; genuine = h .genuine }
+  read-told r e =
+      let h = says-of (reading s) r (readRefusal f s (length buf)) served (e ∙ answer-is) in
+      let v = h .1 ∙ parts (readRefusal f s (length buf)) in
+      record {
+        number = h .0;
+        taken = ap (λ (x : Values). x .1) v;
+        complete = ap (λ (x : Values). x .0) v;
+        state = ap (λ (x : Values). x .2) v;
+        genuine = h .2;
+      }
 
   pub read-is : (r : Answer) → ReadOk f s piece buf r → r ≡ readAnswer f s piece buf
-  read-is r h = one r (readAnswer f s piece buf) (record { number = h .number; taken = h .taken; complete = h .complete; state = h .state; genuine = h .genuine }) told
+  read-is r h =
+      says-is (reading s) (readRefusal f s (length buf)) served r
+      (h .number, same-values (h .complete) (h .taken) (h .state) ∙ sym (parts (readRefusal f s (length buf))), h .genuine)
+      ∙ sym answer-is

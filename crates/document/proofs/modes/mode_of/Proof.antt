@@ -1,17 +1,18 @@
 -- `document::modes::mode_of` meets its contract: in a named arm the byte is that number, and the definition computes; in
 -- the last it is none of them. Assumes nothing.
+use mathlib.Core.Path.{refl}
 use borrow.Author.Tests.{ne-eqb}
 use Rattle.document.proofs.modes.mode_of.Statement.{statement}
 use Rattle.document.proofs.modes.mode_of.Tie as tie
 
 returns : tie.Need-returns
-returns c = rw (c .match .keys1)
+returns c = rw (c .match .keys1) refl
 
 returns-2 : tie.Need-returns-2
-returns-2 c = rw (c .match .keys2)
+returns-2 c = rw (c .match .keys2) refl
 
 returns-3 : tie.Need-returns-3
-returns-3 c = rw (c .match .keys3)
+returns-3 c = rw (c .match .keys3) refl
 
 returns-4 : tie.Need-returns-4
 returns-4 c =
