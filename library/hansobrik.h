@@ -5,15 +5,25 @@
  *
  * How the calls go:
  * - A buffer is a pointer and a count of its elements (bytes, or 16-bit numbers where the pointer says so). It is not kept
- *   after the call. Where the count is 0 the pointer is not looked at.
+ *   after the call. Where the count is 0 the pointer is not looked at. The comment of a call names the elements that each
+ *   buffer needs, by the constants below without their HANSOBRIK_; more is no harm.
  * - Buffers lent to one call must not overlap, and one that is written must not be read or written by anybody else meanwhile.
- * - `refused`, or the number that comes back alone, is 0 or one of the refusal numbers below; they are tested in the order in
- *   which they stand here, and the comment of a call names its own. A refused call changes no buffer; its answer has 0 in
- *   every other field, but the reader's record, a register and an assembly's marks come back as they were handed in.
+ * - Every call is safe from any thread on buffers of its own: the library has no memory of its own, keeps nothing between
+ *   calls and takes no lock. Two calls at once may read the same buffer. What a caller keeps (a reader's record, a register,
+ *   an assembly's marks) belongs to one recording, and one thread at a time hands it on.
+ * - `refused`, or the number that comes back alone, is HANSOBRIK_OK or a refusal number. "Refused: FORMAT, STATE." in the
+ *   comment of a call says that it gives HANSOBRIK_REFUSED_FORMAT or HANSOBRIK_REFUSED_STATE and no other, tested in this
+ *   order. A refused call changes no buffer; its answer has 0 in every other field, but the reader's record, a register and
+ *   an assembly's marks come back as they were handed in.
  * - Bytes of a buffer behind a call's result are kept.
  * - Numbers have the width that is declared: C cuts a wider one without a word, so compile with -Wconversion.
  *
- * Link with librack.a. The library has no state of its own and takes no memory; of the C library it needs memset alone.
+ * Widths: the reader's record has fields of fixed width and 24 bytes without a gap on every machine, so one that was stored
+ * is read on another machine of the same byte order. Counts and lengths are size_t and follow the machine. The proofs are
+ * over sizes of 64 bits and the archive is made for such machines: where size_t has 4 bytes this header does not compile.
+ *
+ * C11 or C++11, or later. Link with libhansobrik.a (`pkg-config --cflags --libs hansobrik` where it is installed). The library
+ * takes no memory; of the C library it needs memset alone.
  */
 #ifndef HANSOBRIK_H
 #define HANSOBRIK_H
@@ -23,24 +33,38 @@
 #include <stdint.h>
 
 #ifdef __cplusplus
+static_assert(sizeof(size_t) == 8, "hansobrik: the library is made for machines whose size_t has 8 bytes");
 extern "C" {
+#else
+_Static_assert(sizeof(size_t) == 8, "hansobrik: the library is made for machines whose size_t has 8 bytes");
 #endif
+
+/* ---- the version of this header ---- */
+
+#define HANSOBRIK_VERSION_MAJOR 0
+#define HANSOBRIK_VERSION_MINOR 2
+#define HANSOBRIK_VERSION_PATCH 0
+#define HANSOBRIK_VERSION (HANSOBRIK_VERSION_MAJOR * 10000 + HANSOBRIK_VERSION_MINOR * 100 + HANSOBRIK_VERSION_PATCH)
+#define HANSOBRIK_VERSION_TEXT "0.2.0"
 
 /* ---- refusal numbers, in the order in which they are tested ---- */
 
 enum {
-    HANSOBRIK_FORMAT = 1,       /* the format is neither 1 nor 2 */
-    HANSOBRIK_STATE = 12,       /* the reader's record, the register or the marks are impossible */
-    HANSOBRIK_NUMBER = 4,       /* a sector, channel or block number that the call does not serve; calibration-2 in format 2 */
-    HANSOBRIK_RANGE = 10,       /* level, grid point, number size or decimal places out of range; a pixel over its width */
-    HANSOBRIK_MAGNITUDE = 11,   /* a magnitude over 2^31-1 (n 4) or 2^47-1 (n 6), on writing */
-    HANSOBRIK_SHORT_INPUT = 2,  /* line or block buffer, number bytes, sector data or pixels fewer than needed */
-    HANSOBRIK_SHORT_OUTPUT = 3, /* the output is shorter than the result */
-    HANSOBRIK_REMAINDER = 5,    /* the sector's remainder is not 0 */
-    HANSOBRIK_ID = 6,           /* the remainder is 0, the ID not the sector's own */
-    HANSOBRIK_FIELD = 7,        /* BCD digit over 9, date part out of range, bad segment or repeat bytes */
-    HANSOBRIK_SEGMENT = 8,      /* the segment differs from the stored one */
-    HANSOBRIK_UNFINISHED = 9    /* an entry of a block without all 25 segments */
+    HANSOBRIK_OK = 0,                   /* the call was served */
+    HANSOBRIK_REFUSED_FORMAT = 1,       /* the format is neither 1 nor 2 */
+    HANSOBRIK_REFUSED_STATE = 12,       /* the reader's record, the register or the marks are impossible */
+    HANSOBRIK_REFUSED_NUMBER = 4,       /* a sector, channel or block number that the call does not serve;
+                                           calibration-2 in format 2 */
+    HANSOBRIK_REFUSED_RANGE = 10,       /* level, grid point, number size or decimal places out of range;
+                                           a pixel over its width */
+    HANSOBRIK_REFUSED_MAGNITUDE = 11,   /* a magnitude over 2^31-1 (n 4) or 2^47-1 (n 6), on writing */
+    HANSOBRIK_REFUSED_SHORT_INPUT = 2,  /* line or block buffer, number bytes, sector data or pixels fewer than needed */
+    HANSOBRIK_REFUSED_SHORT_OUTPUT = 3, /* the output is shorter than the result */
+    HANSOBRIK_REFUSED_REMAINDER = 5,    /* the sector's remainder is not 0 */
+    HANSOBRIK_REFUSED_ID = 6,           /* the remainder is 0, the ID not the sector's own */
+    HANSOBRIK_REFUSED_FIELD = 7,        /* BCD digit over 9, date part out of range, bad segment or repeat bytes */
+    HANSOBRIK_REFUSED_SEGMENT = 8,      /* the segment differs from the stored one */
+    HANSOBRIK_REFUSED_UNFINISHED = 9    /* an entry of a block without all 25 segments */
 };
 
 /* ---- sizes ---- */
@@ -76,11 +100,29 @@ enum {
     HANSOBRIK_FIFTEEN_ONES = 0x7FFF    /* the scrambling register before the first information bit */
 };
 
+/* What scan mode and scanner select name. */
+enum {
+    HANSOBRIK_SCAN_UNNAMED = 0,        /* the byte names no mode */
+    HANSOBRIK_SCAN_FULL = 1,
+    HANSOBRIK_SCAN_LIMITED = 2,
+    HANSOBRIK_SCAN_SINGLE = 3
+};
+
+enum {
+    HANSOBRIK_MIRROR_UNNAMED = 0,      /* the byte names no mirror */
+    HANSOBRIK_MIRROR_1A = 1,
+    HANSOBRIK_MIRROR_1B = 2,
+    HANSOBRIK_MIRROR_2A = 3,
+    HANSOBRIK_MIRROR_2B = 4
+};
+
 /* ---- what a caller keeps, and the answers ---- */
 
-/* What a reader keeps between calls; 24 bytes without a gap. Do not look inside, but keep it: every field 0 is a fresh one. */
+/* What a reader keeps between calls. Every field 0 is a fresh one. A caller may look at in_line and position: where in_line is
+ * 1 at the end of a recording, it stops inside a line, of whose 8 * LINE_BYTES bits it has the first `position`. The other
+ * fields are the reader's own. */
 typedef struct {
-    size_t position;       /* in a line: the next line bit */
+    uint64_t position;     /* in a line: the next line bit */
     uint64_t search;       /* between lines: the last bits since the search began, the last one lowest */
     uint16_t register_;    /* in a line: the scrambling register */
     uint8_t in_line;       /* 1 in a line, 0 between lines */
@@ -120,12 +162,12 @@ typedef struct {
 
 typedef struct {
     uint8_t refused;
-    uint8_t answers[12];   /* sectors 1 to 12: 0 where the sector is accepted, else 5 or 6 */
+    uint8_t answers[12];   /* sectors 1 to 12: OK where the sector is accepted, else REMAINDER or ID */
 } hansobrik_twelve_answer;
 
 typedef struct {
     uint8_t refused;
-    uint8_t vis[4];        /* VIS1 to VIS4: 0, or 5 or 6 where the sector is not accepted and its part stays */
+    uint8_t vis[4];        /* VIS1 to VIS4: OK, or REMAINDER or ID where the sector is not accepted and its part stays */
 } hansobrik_strip_answer;
 
 typedef struct {
@@ -150,11 +192,10 @@ typedef struct {
     double value;
 } hansobrik_float_answer;
 
-/* name: 0 where the byte names nothing; scan modes 1 full, 2 limited, 3 single; mirrors 1 1-A, 2 1-B, 3 2-A, 4 2-B */
 typedef struct {
     uint8_t refused;
-    uint8_t name;
-    uint8_t byte;
+    uint8_t name;          /* HANSOBRIK_SCAN_.. or HANSOBRIK_MIRROR_.. */
+    uint8_t byte;          /* the byte itself, also where it names nothing */
 } hansobrik_name_answer;
 
 typedef struct {
@@ -208,113 +249,138 @@ typedef struct {
     double anomaly;
 } hansobrik_orbit_answer;
 
+/* ---- the version of the archive ---- */
+
+/* HANSOBRIK_VERSION of the header that the archive was made with; another number is that of another header. Never refused. */
+uint32_t hansobrik_version(void);
+
 /* ---- formats, scrambling, SYNC ---- */
 
-/* The lengths of a format. 1. */
+/* The lengths of a format. Refused: FORMAT. */
 hansobrik_format_answer hansobrik_format(uint8_t format);
 
-/* One step of the scrambling register, by value. A register over fifteen bits comes back as it was. 12. */
+/* One step of the scrambling register, by value. A register over fifteen bits comes back as it was. Refused: STATE. */
 hansobrik_step_answer hansobrik_stepped(uint16_t register_);
 
-/* The same of a register that is lent, and changes in place; a refused one stays as it was. 12. */
+/* The same of a register that is lent, and changes in place; a refused one stays as it was. Refused: STATE. */
 hansobrik_step_answer hansobrik_step(uint16_t *register_);
 
-/* SYNC at the front of out; count is its bytes. 1, 3. */
+/* SYNC at the front of out; count is its bytes. Needs in out: SYNC_BYTES_1, in format 2 SYNC_BYTES_2.
+ * Refused: FORMAT, SHORT_OUTPUT. */
 hansobrik_count_answer hansobrik_put_sync(uint8_t format, uint8_t *out, size_t out_count);
 
 /* ---- recordings ---- */
 
-/* A reader before a recording's first bit. */
+/* A reader before a recording's first bit. Never refused. */
 hansobrik_state hansobrik_fresh(void);
 
-/* Reads until a line is complete or the piece is used up. A complete line stands in the buffer until a later call finds the
- * next tail. The line buffer must have 44,356 bytes or more. 1, 12, 2. */
+/* Reads until a line is complete or the piece is used up; the answer's record is for the next call, and the rest of the piece
+ * is offered to it again. A complete line stands in the buffer until a later call finds the next tail. hansobrik_reader, at the
+ * end of this file, keeps record and rest together. Needs in line: LINE_BYTES. The piece may have any length, 0 too.
+ * Refused: FORMAT, STATE, SHORT_INPUT. */
 hansobrik_read_answer hansobrik_read(uint8_t format, hansobrik_state state, const uint8_t *piece, size_t piece_count,
                                      uint8_t *line, size_t line_count);
 
-/* One plain line on the wire at the front of out; count is its bytes. 1, 2, 3. */
+/* One plain line on the wire at the front of out; count is its bytes. Needs in line: LINE_BYTES; in out: WIRE_BYTES_1, in
+ * format 2 WIRE_BYTES_2. Refused: FORMAT, SHORT_INPUT, SHORT_OUTPUT. */
 hansobrik_count_answer hansobrik_write_line(uint8_t format, const uint8_t *line, size_t line_count, uint8_t *out,
                                             size_t out_count);
 
 /* ---- the twelve sectors of a plain line ---- */
 
-/* Whether a sector is accepted: 0, or 1, 4, 2, 5, 6. */
+/* Whether a sector, 1 to 12, is accepted. Needs in line: LINE_BYTES.
+ * Refused: FORMAT, NUMBER, SHORT_INPUT, REMAINDER, ID. */
 uint8_t hansobrik_accepted(uint8_t format, const uint8_t *line, size_t line_count, uint8_t sector);
 
-/* What hansobrik_accepted says of each of the twelve sectors; one call divides each sector once. 1, 2. */
+/* What hansobrik_accepted says of each of the twelve sectors; one call divides each sector once. Needs in line: LINE_BYTES.
+ * Refused: FORMAT, SHORT_INPUT. */
 hansobrik_twelve_answer hansobrik_answers(uint8_t format, const uint8_t *line, size_t line_count);
 
-/* The filler bits of a sector that are set. 1, 4, 2. */
+/* The filler bits of a sector, 1 to 12, that are set. Needs in line: LINE_BYTES. Refused: FORMAT, NUMBER, SHORT_INPUT. */
 hansobrik_count_answer hansobrik_filler(uint8_t format, const uint8_t *line, size_t line_count, uint8_t sector);
 
-/* The data of a sector. 1, 4, 2, 3, 5, 6. */
+/* The data of a sector, 1 to 12. Needs in line: LINE_BYTES; in out: DATA_BYTES_8 for 1 to 4, DATA_BYTES_6 for 5 to 8,
+ * DATA_BYTES_2 for 9 to 11, DATA_BYTES_10 for 12. Refused: FORMAT, NUMBER, SHORT_INPUT, SHORT_OUTPUT, REMAINDER, ID. */
 uint8_t hansobrik_data(uint8_t format, const uint8_t *line, size_t line_count, uint8_t sector, uint8_t *out,
                        size_t out_count);
 
-/* The pixels of a sector from 2 to 11. 1, 4, 2, 3, 5, 6. */
+/* The pixels of a sector from 2 to 11. Needs in line: LINE_BYTES; in out: VIS_PIXELS for 5 to 8, else IR_PIXELS.
+ * Refused: FORMAT, NUMBER, SHORT_INPUT, SHORT_OUTPUT, REMAINDER, ID. */
 uint8_t hansobrik_pixels(uint8_t format, const uint8_t *line, size_t line_count, uint8_t sector, uint8_t *out,
                          size_t out_count);
 
-/* The pixels of IR4, sector 12. 1, 4, 2, 3, 5, 6. */
+/* The pixels of IR4, sector 12. Needs in line: LINE_BYTES; in out: IR_PIXELS.
+ * Refused: FORMAT, NUMBER, SHORT_INPUT, SHORT_OUTPUT, REMAINDER, ID. */
 uint8_t hansobrik_pixels_wide(uint8_t format, const uint8_t *line, size_t line_count, uint8_t sector, uint16_t *out,
                               size_t out_count);
 
-/* The ten-bit pixels of IR1, IR2 or IR3, channel 1 to 3. 1, 4, 2, 3, then 5 and 6 of the upper sector and of the lower. */
+/* The ten-bit pixels of IR1, IR2 or IR3, channel 1 to 3; the upper sector is tested before the lower. Needs in line:
+ * LINE_BYTES; in out: IR_PIXELS. Refused: FORMAT, NUMBER, SHORT_INPUT, SHORT_OUTPUT, REMAINDER, ID. */
 uint8_t hansobrik_joined(uint8_t format, const uint8_t *line, size_t line_count, uint8_t channel, uint16_t *out,
                          size_t out_count);
 
-/* VIS1 to VIS4 in one strip of 36,656 bytes, each in its own part. 1, 2, 3. */
+/* VIS1 to VIS4 in one strip, each in its own part of VIS_PIXELS bytes. Needs in line: LINE_BYTES; in strip: STRIP_BYTES.
+ * Refused: FORMAT, SHORT_INPUT, SHORT_OUTPUT. */
 hansobrik_strip_answer hansobrik_strip(uint8_t format, const uint8_t *line, size_t line_count, uint8_t *strip,
                                        size_t strip_count);
 
-/* Data into a sector, with ID, check word and zero filler; the other sectors keep their bits. 1, 4, 2. */
+/* Data into a sector, 1 to 12, with ID, check word and zero filler; the other sectors keep their bits. Needs in line:
+ * LINE_BYTES; in bytes: as many as hansobrik_data needs in out. Refused: FORMAT, NUMBER, SHORT_INPUT. */
 uint8_t hansobrik_put_data(uint8_t format, uint8_t *line, size_t line_count, uint8_t sector, const uint8_t *bytes,
                            size_t bytes_count);
 
-/* Pixels into a sector from 2 to 11. 1, 4, 10, 2. */
+/* Pixels into a sector from 2 to 11. Needs in line: LINE_BYTES; in pixels: VIS_PIXELS for 5 to 8, else IR_PIXELS.
+ * Refused: FORMAT, NUMBER, RANGE, SHORT_INPUT. */
 uint8_t hansobrik_put_pixels(uint8_t format, uint8_t *line, size_t line_count, uint8_t sector, const uint8_t *pixels,
                              size_t pixels_count);
 
-/* Pixels into IR4, sector 12. 1, 4, 10, 2. */
+/* Pixels into IR4, sector 12. Needs in line: LINE_BYTES; in pixels: IR_PIXELS. Refused: FORMAT, NUMBER, RANGE, SHORT_INPUT. */
 uint8_t hansobrik_put_pixels_wide(uint8_t format, uint8_t *line, size_t line_count, uint8_t sector, const uint16_t *pixels,
                                   size_t pixels_count);
 
 /* ---- numbers at the front of a buffer ---- */
 
-/* I*n, n 1 to 4. 10, 2. */
+/* I*n, n 1 to 4. Needs in bytes: n. Refused: RANGE, SHORT_INPUT. */
 hansobrik_integer_answer hansobrik_read_integer(const uint8_t *bytes, size_t bytes_count, size_t n);
 
-/* BCD*n, n 1 to 6. 10, 2, 7. */
+/* BCD*n, n 1 to 6. Needs in bytes: n. Refused: RANGE, SHORT_INPUT, FIELD. */
 hansobrik_bcd_answer hansobrik_read_bcd(const uint8_t *bytes, size_t bytes_count, size_t n);
 
-/* R*n.m, n 4 or 6, m 0 to 15, as sign, magnitude and places. 10, 2. */
+/* R*n.m, n 4 or 6, m 0 to 15, as sign, magnitude and places. Needs in bytes: n. Refused: RANGE, SHORT_INPUT. */
 hansobrik_real_answer hansobrik_read_real(const uint8_t *bytes, size_t bytes_count, size_t n, uint8_t m);
 
-/* The same as a double. 10, 2. */
+/* The same as a double. Needs in bytes: n. Refused: RANGE, SHORT_INPUT. */
 hansobrik_float_answer hansobrik_read_f64(const uint8_t *bytes, size_t bytes_count, size_t n, uint8_t m);
 
-/* The n bytes of R*n.m: 0, or 10, 11, 3. */
+/* The n bytes of R*n.m, n 4 or 6, m 0 to 15. Needs in out: n. Refused: RANGE, MAGNITUDE, SHORT_OUTPUT. */
 uint8_t hansobrik_put_real(bool negative, uint64_t magnitude, size_t n, uint8_t m, uint8_t *out, size_t out_count);
 
 /* ---- the documentation sector ---- */
 
-/* Scan mode, byte 3, and scanner select, byte 67. 1, 2, 5, 6. */
+/* Scan mode, byte 3, and scanner select, byte 67. Needs in line: LINE_BYTES. Refused: FORMAT, SHORT_INPUT, REMAINDER, ID. */
 hansobrik_name_answer hansobrik_scan_mode(uint8_t format, const uint8_t *line, size_t line_count);
 hansobrik_name_answer hansobrik_scanner_select(uint8_t format, const uint8_t *line, size_t line_count);
 
-/* Set line, reset line, scan count, and the line position. 1, 2, 5, 6, 7. */
+/* Set line, reset line, scan count, and the line position. Needs in line: LINE_BYTES.
+ * Refused: FORMAT, SHORT_INPUT, REMAINDER, ID, FIELD. */
 hansobrik_lines_answer hansobrik_line_numbers(uint8_t format, const uint8_t *line, size_t line_count);
 
-/* Date and time. 1, 2, 5, 6, 7. */
+/* Date and time. Needs in line: LINE_BYTES. Refused: FORMAT, SHORT_INPUT, REMAINDER, ID, FIELD. */
 hansobrik_date_answer hansobrik_date(uint8_t format, const uint8_t *line, size_t line_count);
 
-/* Which segment of every block the line carries, and its repeat. 1, 2, 5, 6, 7. */
+/* Which segment of every block the line carries, and its repeat. Needs in line: LINE_BYTES.
+ * Refused: FORMAT, SHORT_INPUT, REMAINDER, ID, FIELD. */
 hansobrik_segment_answer hansobrik_sub_commutation(uint8_t format, const uint8_t *line, size_t line_count);
 
-/* A number field at a place: a byte of the sector from 1 to 2,293, ID included. 1, 10, 2, 5, 6, and 7 of BCD. */
+/* A number field, I*n, at a place: a byte of the sector from 1 to 2,293, ID included, in which all its n bytes lie. Needs in
+ * line: LINE_BYTES. Refused: FORMAT, RANGE, SHORT_INPUT, REMAINDER, ID. */
 hansobrik_integer_answer hansobrik_integer_field(uint8_t format, const uint8_t *line, size_t line_count, size_t place,
                                                  size_t n);
+
+/* The same of BCD*n. Needs in line: LINE_BYTES. Refused: FORMAT, RANGE, SHORT_INPUT, REMAINDER, ID, FIELD. */
 hansobrik_bcd_answer hansobrik_bcd_field(uint8_t format, const uint8_t *line, size_t line_count, size_t place, size_t n);
+
+/* The same of R*n.m, and as a double. Needs in line: LINE_BYTES. Refused: FORMAT, RANGE, SHORT_INPUT, REMAINDER, ID. */
 hansobrik_real_answer hansobrik_real_field(uint8_t format, const uint8_t *line, size_t line_count, size_t place, size_t n,
                                            uint8_t m);
 hansobrik_float_answer hansobrik_f64_field(uint8_t format, const uint8_t *line, size_t line_count, size_t place, size_t n,
@@ -322,19 +388,22 @@ hansobrik_float_answer hansobrik_f64_field(uint8_t format, const uint8_t *line, 
 
 /* ---- blocks, put together out of 25 segments ---- */
 
-/* The marks of an assembly that has no segment yet: 0. */
+/* The marks of an assembly that has no segment yet: 0. Never refused. */
 uint32_t hansobrik_no_marks(void);
 
-/* The segment of a block that a line carries, added to marks and block buffer. 1, 12, 4, 2, 5, 6, 7, 8. */
+/* The segment of a block, MAPPING to CALIBRATION_2, that a line carries, added to marks and block buffer. Needs in line:
+ * LINE_BYTES; in block: MAPPING_BYTES, ORBIT_BYTES, MANAM_BYTES, CALIBRATION_1_BYTES or CALIBRATION_2_BYTES, by number.
+ * Refused: FORMAT, STATE, NUMBER, SHORT_INPUT, REMAINDER, ID, FIELD, SEGMENT. */
 hansobrik_add_answer hansobrik_add_segment(uint8_t format, uint32_t marks, const uint8_t *line, size_t line_count,
                                            uint8_t number, uint8_t *block, size_t block_count);
 
-/* A point of a finished mapping block, row and column 0 to 24. 1, 12, 10, 2, 9. */
+/* A point of a finished mapping block, row and column 0 to 24. Needs in block: MAPPING_BYTES.
+ * Refused: FORMAT, STATE, RANGE, SHORT_INPUT, UNFINISHED. */
 hansobrik_grid_answer hansobrik_mapping(uint8_t format, uint32_t marks, const uint8_t *block, size_t block_count,
                                         uint16_t row, uint16_t column);
 
-/* A level of a finished calibration-2 block: albedo of VIS 1 to 4 (0 to 63), temperature of IR 1 to 4 (0 to 1,023).
- * 1, 12, 4, 10, 2, 9. */
+/* A level of a finished calibration-2 block: albedo of VIS 1 to 4 (0 to 63), temperature of IR 1 to 4 (0 to 1,023). Needs in
+ * block: CALIBRATION_2_BYTES. Refused: FORMAT, STATE, NUMBER, RANGE, SHORT_INPUT, UNFINISHED. */
 hansobrik_real_answer hansobrik_albedo(uint8_t format, uint32_t marks, const uint8_t *block, size_t block_count,
                                        uint8_t channel, uint16_t level);
 hansobrik_float_answer hansobrik_albedo_f64(uint8_t format, uint32_t marks, const uint8_t *block, size_t block_count,
@@ -344,8 +413,96 @@ hansobrik_real_answer hansobrik_temperature(uint8_t format, uint32_t marks, cons
 hansobrik_float_answer hansobrik_temperature_f64(uint8_t format, uint32_t marks, const uint8_t *block, size_t block_count,
                                                  uint8_t channel, uint16_t level);
 
-/* The orbital elements of a finished orbit block. 1, 12, 2, 9. */
+/* The orbital elements of a finished orbit block. Needs in block: ORBIT_BYTES.
+ * Refused: FORMAT, STATE, SHORT_INPUT, UNFINISHED. */
 hansobrik_orbit_answer hansobrik_elements(uint8_t format, uint32_t marks, const uint8_t *block, size_t block_count);
+
+/* ---- helpers, which stand here whole: plain C, tested and not proved ---- */
+
+/* A refusal number in words. */
+static inline const char *
+hansobrik_refusal_words(uint8_t number)
+{
+    switch (number) {
+    case HANSOBRIK_OK: return "the call was served";
+    case HANSOBRIK_REFUSED_FORMAT: return "the format is neither 1 nor 2";
+    case HANSOBRIK_REFUSED_STATE: return "the reader's record, the register or the marks are impossible";
+    case HANSOBRIK_REFUSED_NUMBER:
+        return "a sector, channel or block number that the call does not serve; calibration-2 in format 2";
+    case HANSOBRIK_REFUSED_RANGE:
+        return "level, grid point, number size or decimal places out of range; a pixel over its width";
+    case HANSOBRIK_REFUSED_MAGNITUDE: return "a magnitude over 2^31-1 (n 4) or 2^47-1 (n 6), on writing";
+    case HANSOBRIK_REFUSED_SHORT_INPUT:
+        return "line or block buffer, number bytes, sector data or pixels fewer than needed";
+    case HANSOBRIK_REFUSED_SHORT_OUTPUT: return "the output is shorter than the result";
+    case HANSOBRIK_REFUSED_REMAINDER: return "the sector's remainder is not 0";
+    case HANSOBRIK_REFUSED_ID: return "the remainder is 0, the ID not the sector's own";
+    case HANSOBRIK_REFUSED_FIELD: return "BCD digit over 9, date part out of range, bad segment or repeat bytes";
+    case HANSOBRIK_REFUSED_SEGMENT: return "the segment differs from the stored one";
+    case HANSOBRIK_REFUSED_UNFINISHED: return "an entry of a block without all 25 segments";
+    default: return "a number that the library does not give";
+    }
+}
+
+/* A reader that hands its record on by itself and keeps the rest of the piece:
+ *
+ *     hansobrik_reader reader = hansobrik_reader_fresh(HANSOBRIK_S_VISSR);
+ *     (for each piece)
+ *         hansobrik_reader_offer(&reader, piece, count);
+ *         while (hansobrik_reader_line(&reader, line, sizeof line))
+ *             show(line);
+ *         if (reader.refused != HANSOBRIK_OK)
+ *             stop(hansobrik_refusal_words(reader.refused));
+ *
+ * The piece is read where it stands: it must stay as it is until it is used up. */
+typedef struct {
+    hansobrik_state state; /* the record after the last call */
+    const uint8_t *rest;   /* of the piece: the bytes that are not taken yet */
+    size_t rest_count;
+    uint8_t format;
+    uint8_t refused;       /* of the last hansobrik_reader_line: OK, or why it gave no line */
+} hansobrik_reader;
+
+/* A reader before a recording's first bit, without a piece. */
+static inline hansobrik_reader
+hansobrik_reader_fresh(uint8_t format)
+{
+    hansobrik_reader reader;
+    reader.state = hansobrik_fresh();
+    reader.rest = NULL;
+    reader.rest_count = 0;
+    reader.format = format;
+    reader.refused = HANSOBRIK_OK;
+    return reader;
+}
+
+/* The next piece. Where some of the last one is still to read it takes nothing and gives false: with those bytes left out the
+ * reader would lose the line that they belong to. */
+static inline bool
+hansobrik_reader_offer(hansobrik_reader *reader, const uint8_t *piece, size_t count)
+{
+    if (reader->rest_count > 0)
+        return false;
+    reader->rest = piece;
+    reader->rest_count = count;
+    return true;
+}
+
+/* Reads on in the piece. True: a line stands whole in the buffer; there may be more in the piece. False: the piece is used up
+ * and the next one may be offered, or the call was refused and `refused` says why; then nothing was taken, and the same call
+ * with what it lacked goes on. Needs in line: LINE_BYTES. */
+static inline bool
+hansobrik_reader_line(hansobrik_reader *reader, uint8_t *line, size_t line_count)
+{
+    hansobrik_read_answer answer =
+        hansobrik_read(reader->format, reader->state, reader->rest, reader->rest_count, line, line_count);
+    reader->refused = answer.refused;
+    reader->state = answer.state;
+    if (answer.taken > 0)
+        reader->rest += answer.taken;
+    reader->rest_count -= answer.taken;
+    return answer.complete;
+}
 
 #ifdef __cplusplus
 }

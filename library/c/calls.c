@@ -23,6 +23,7 @@ enum { CANARY = 64, PAGE = 65536, MOST_NUMBERS = 16, MOST_BUFFERS = 2, MOST_FIEL
 
 /* The calls in the header's order, and one that is no call. */
 enum {
+    VERSION,
     FORMAT, STEPPED, STEP, PUT_SYNC,
     FRESH, READ, WRITE_LINE,
     ACCEPTED, ANSWERS, FILLER, DATA, PIXELS, PIXELS_WIDE, JOINED, STRIP, PUT_DATA, PUT_PIXELS, PUT_PIXELS_WIDE,
@@ -193,7 +194,7 @@ static const void *seen(size_t i)
 static hansobrik_state state(size_t i)
 {
     hansobrik_state s;
-    s.position = size(i);
+    s.position = numbers[i];
     s.search = numbers[i + 1];
     s.register_ = u16(i + 2);
     s.in_line = u8(i + 3);
@@ -380,7 +381,8 @@ static void say_orbit(hansobrik_orbit_answer a)
 }
 
 /* No call of the library: turns over a bit of the byte that lies numbers[1] bytes behind the start of buffer numbers[0], or
- * before it, as a wrong call would. The last buffer is lent to be read only. The harness asks for it to see that harm is seen. */
+ * before it, as a wrong call would. The last buffer is lent to be read only. The harness asks for it to see that harm is
+ * seen. */
 static void spoil(size_t buffer_count)
 {
     (void)seen(buffer_count - 1);
@@ -392,6 +394,7 @@ static void spoil(size_t buffer_count)
 static void call(uint64_t which, size_t buffer_count)
 {
     switch (which) {
+    case VERSION: say(hansobrik_version()); break;
     case FORMAT: say_format(hansobrik_format(u8(0))); break;
     case STEPPED: say_step(hansobrik_stepped(u16(0))); break;
     case STEP: say_step(hansobrik_step(lent(0))); break;

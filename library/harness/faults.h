@@ -210,4 +210,10 @@ static hansobrik_twelve_answer wrong(uint8_t f, BYTES)
     return a;
 }
 #define hansobrik_answers wrong
+#elif FAULT == 23 /* the version of another library */
+static uint32_t wrong(void)
+{
+    return hansobrik_version() + 100;
+}
+#define hansobrik_version wrong
 #endif

@@ -1,6 +1,6 @@
 /* The eight calls of hansobrik.h whose answers or records cross otherwise on this processor than on x86-64, for which the
- * library's modules are lowered. `far_` are the modules' own functions under another name; the other 31 calls are the same on
- * both and need nothing here. */
+ * library's modules are lowered. `far_` are the modules' own functions under another name; the other calls are the same on both
+ * and need nothing here. */
 #include "hansobrik.h"
 
 /* an answer of more than sixteen bytes: on x86-64 its address is the first argument */

@@ -10,4 +10,5 @@
 //   Bytes, Window, Store         a bit or a field of bytes by shifts and masks, read and put
 //   Mixed, Distance, Same        two strings: their exclusive or, how far they are apart, whether they are the same
 //   Writes, Packing, Zeros       loops that write, zeros
-//   Base                         a number in a base that grows by a digit
+//   Base, Whole                  a number in a base that grows by a digit; the number that bits write, in digits of any width
+//   Stretches                    some elements of a string, and a string cut into pieces

@@ -1,13 +1,15 @@
-// Both sides of each edge that document 01 names for the reader, as runs: one line of output for each. The expected
-// lines in `stdout` follow from document 01, and not from a run of this program.
+// Both sides of each edge that document 01 names for the reader, and of those of a finished block's entries, as runs: one line
+// of output for each. The expected lines in `stdout` follow from document 01, and not from a run of this program.
 //
 // A recording here is noise of one byte, tails where the edge has them, and information bits that are the noise too. With
 // noise of zeros the plain line opens with the scrambling bytes after SYNC, every second one inverted: 00 FD 00 F3.
 ghost use Prim.Native.Nat.{_≤_, _<_};
 ghost use lib.ListN.{length};
-use libc::STDOUT_FILENO;
 use reader::Answer;
 use reader_record::State;
+use text::Row;
+
+mod entries_at_edges;
 
 // The bytes that a recording here can have, and those of a line.
 const SPACE: usize = 89000;
@@ -22,23 +24,6 @@ struct Run {
     lines: u64,
     ended: usize,
     unread: u8,
-}
-
-fn say(text: &[u8]) {
-    io::write_all(STDOUT_FILENO, text);
-}
-
-fn number(before: &[u8], n: u64) {
-    say(before);
-    io::print_decimal(STDOUT_FILENO, n);
-}
-
-fn wide(n: usize) -> u64 {
-    n as u64
-}
-
-fn byte(n: u8) -> u64 {
-    n as u64
 }
 
 // Noise of one byte, over all of the space.
@@ -131,25 +116,41 @@ fn drive(rec: &[u8], size: usize, line: &mut [u8; LINE]) -> Run {
 
 // The first bytes of a recording, read in pieces of at most size bytes, and what was seen.
 fn edge(name: &[u8], rec: &[u8; SPACE], bytes: usize, size: usize) {
-    seen(name, rec, bytes, size);
+    seen(text::empty().words(name), rec, bytes, size);
 }
 
-fn seen(name: &[u8], rec: &[u8], bytes: usize, size: usize) {
+fn seen(name: Row, rec: &[u8], bytes: usize, size: usize) {
     let end = end_of(0, bytes, rec.len());
     let mut line = [7u8; LINE];
     let r = drive(&rec[..end], size, &mut line);
-    say(name);
-    number(b": lines ", r.lines);
+    let row = name.words(b": lines ").number(r.lines);
     if r.lines > 0 {
-        number(b", the last after ", wide(r.ended));
-        number(b" bytes with ", byte(r.unread));
-        number(b" bits unread, opening ", byte(line[0]));
-        number(b" ", byte(line[1]));
-        number(b" ", byte(line[2]));
-        number(b" ", byte(line[3]));
-        number(b" and ending ", byte(line[44355]));
+        last(row, r, &line).write();
+        return;
     }
-    say(b"\n");
+    row.write();
+}
+
+fn byte(n: u8) -> u64 {
+    n as u64
+}
+
+// Where the last line ended, and what stands in it.
+fn last(row: Row, r: Run, line: &[u8; LINE]) -> Row {
+    row.words(b", the last after ")
+        .number(r.ended as u64)
+        .words(b" bytes with ")
+        .number(r.unread as u64)
+        .words(b" bits unread, opening ")
+        .number(byte(line[0]))
+        .words(b" ")
+        .number(byte(line[1]))
+        .words(b" ")
+        .number(byte(line[2]))
+        .words(b" ")
+        .number(byte(line[3]))
+        .words(b" and ending ")
+        .number(byte(line[44355]))
 }
 
 // The refusal number of an answer, 0 for none.
@@ -173,9 +174,11 @@ fn taken(a: Answer) -> usize {
 fn told(name: &[u8], format: u8, s: State, line: &mut [u8]) {
     let none = [0u8; 1];
     let a = reader::read(format, s, &none[..0], line);
-    say(name);
-    number(b": refusal ", byte(refusal(a)));
-    say(b"\n");
+    text::empty()
+        .words(name)
+        .words(b": refusal ")
+        .number(refusal(a) as u64)
+        .write();
 }
 
 // With a buffer of 44,356 bytes, and of one less.
@@ -261,14 +264,22 @@ fn lines_at_edges() {
     );
 }
 
+fn offset(o: usize, rec: &[u8; SPACE]) {
+    seen(
+        text::empty().words(b"offset ").number(o as u64),
+        rec,
+        44365,
+        SPACE,
+    );
+}
+
 // Every bit of a byte as a line's start.
 fn offsets() {
     let mut o: usize = 0;
     while o < 8 {
         let mut rec = [0u8; SPACE];
         put_tail(&mut rec, o);
-        number(b"offset ", wide(o));
-        edge(b"", &rec, 44365, SPACE);
+        offset(o, &rec);
         o += 1;
     }
 }
@@ -278,8 +289,10 @@ fn nothing() {
     let none = [0u8; 1];
     let mut line = [0u8; LINE];
     let a = reader::read(1, reader_record::fresh(), &none[..0], &mut line);
-    number(b"empty piece: taken ", wide(taken(a)));
-    say(b"\n");
+    text::empty()
+        .words(b"empty piece: taken ")
+        .number(taken(a) as u64)
+        .write();
 }
 
 // Refusals, both sides of each.
@@ -327,4 +340,5 @@ fn main() {
     offsets();
     nothing();
     refusals();
+    entries_at_edges::all();
 }

@@ -1,43 +1,57 @@
-// The five blocks, assembled side by side in one room of 47,950 bytes.
-use crate::say;
-use crate::tables;
+// The five blocks, assembled one behind the other in one room of 47,950 bytes.
 use blocks::marks::Marks;
 use segments::Added;
+use text::Row;
 
-// The bytes of the five blocks in all.
-const ROOM: usize = 47950;
+// Where each block begins in the room, and where the last one ends.
+const PLACES: [usize; 6] = [0, 2500, 5700, 15950, 22350, 47950];
 
-// The marks of the five blocks.
+// The marks of each, and what it answered to the last segment: 0, or a refusal.
 pub struct Five {
-    pub mapping: Marks,
-    pub orbit: Marks,
-    pub manam: Marks,
-    pub first: Marks,
-    pub second: Marks,
+    pub marks: [u32; 5],
+    pub answers: [u8; 5],
 }
 
-// No segment of any block.
 pub fn empty() -> Five {
     Five {
-        mapping: blocks::marks::no_marks(),
-        orbit: blocks::marks::no_marks(),
-        manam: blocks::marks::no_marks(),
-        first: blocks::marks::no_marks(),
-        second: blocks::marks::no_marks(),
+        marks: [0; 5],
+        answers: [0; 5],
     }
 }
 
-// A line's segment to one block: the answer is written, and the marks after it come back.
-fn one(format: u8, marks: Marks, plain: &[u8], number: u8, block: &mut [u8]) -> Marks {
-    match segments::add_segment(format, marks, plain, number, block) {
-        Added::Refused(k) => {
-            say::number(b" ", say::byte(k));
-            marks
-        }
+// The marks of a block, which counts from 0 here.
+pub fn marks_of(d: Five, block: usize) -> Marks {
+    let marks = d.marks;
+    if block < 5 {
+        return Marks {
+            segments: marks[block],
+        };
+    }
+    blocks::marks::no_marks()
+}
+
+// The same with the marks and the answer of one of them anew.
+fn with(d: Five, block: usize, marks: u32, answer: u8) -> Five {
+    let mut all = d.marks;
+    let mut answers = d.answers;
+    if block < 5 {
+        all[block] = marks;
+        answers[block] = answer;
+    }
+    Five {
+        marks: all,
+        answers: answers,
+    }
+}
+
+// A line's segment to one block.
+fn one(format: u8, d: Five, plain: &[u8], block: usize, number: u8, space: &mut [u8]) -> Five {
+    let was = marks_of(d, block);
+    match segments::add_segment(format, was, plain, number, space) {
+        Added::Refused(k) => with(d, block, was.segments, k),
         Added::Is(placed) => {
-            say::number(b" ", 0);
             let after = placed.marks;
-            after
+            with(d, block, after.segments, 0)
         }
     }
 }
@@ -45,60 +59,58 @@ fn one(format: u8, marks: Marks, plain: &[u8], number: u8, block: &mut [u8]) -> 
 // The same for the block that stands in the room from a place to another.
 fn within(
     format: u8,
-    marks: Marks,
+    d: Five,
     plain: &[u8],
+    block: usize,
     number: u8,
     room: &mut [u8],
     from: usize,
     to: usize,
-) -> Marks {
+) -> Five {
     if to < from {
-        return marks;
+        return d;
     }
     if room.len() < to {
-        return marks;
+        return d;
     }
-    one(format, marks, plain, number, &mut room[from..to])
+    one(format, d, plain, block, number, &mut room[from..to])
 }
 
 // A line's segment to each of the five.
 pub fn add(format: u8, d: Five, plain: &[u8], room: &mut [u8]) -> Five {
-    let a = d.mapping;
-    let b = d.orbit;
-    let c = d.manam;
-    let e = d.first;
-    let f = d.second;
-    say::text(b" blocks");
-    let mapping = within(format, a, plain, 1, room, 0, 2500);
-    let orbit = within(format, b, plain, 2, room, 2500, 5700);
-    let manam = within(format, c, plain, 3, room, 5700, 15950);
-    let first = within(format, e, plain, 4, room, 15950, 22350);
-    let second = within(format, f, plain, 5, room, 22350, 47950);
-    say::text(b"\n");
-    Five {
-        mapping: mapping,
-        orbit: orbit,
-        manam: manam,
-        first: first,
-        second: second,
+    let places = PLACES;
+    let mut all = d;
+    let mut i: usize = 0;
+    let mut number: u8 = 1;
+    while i < 5 {
+        all = within(
+            format,
+            all,
+            plain,
+            i,
+            number,
+            room,
+            places[i],
+            places[i + 1],
+        );
+        i += 1;
+        number = std::num::wrapping_add_u8(number, 1);
     }
+    all
 }
 
-// The marks of all, and the entries.
-pub fn show(format: u8, d: Five, room: &[u8]) {
-    let a = d.mapping;
-    let b = d.orbit;
-    let c = d.manam;
-    let e = d.first;
-    let f = d.second;
-    tables::marks(1, a);
-    tables::marks(2, b);
-    tables::marks(3, c);
-    tables::marks(4, e);
-    tables::marks(5, f);
-    if room.len() < ROOM {
-        return;
+// What the five answered, behind a row.
+pub fn answers(row: Row, d: Five) -> Row {
+    let told = d.answers;
+    let mut all = row.words(b" blocks");
+    let mut i: usize = 0;
+    while i < 5 {
+        all = all.words(b" ").number(wide(told[i]));
+        i += 1;
     }
-    tables::mapping(format, a, &room[0..2500]);
-    tables::calibration(format, f, &room[22350..47950]);
+    all
+}
+
+fn wide(n: u8) -> u64 {
+    n as u64
 }

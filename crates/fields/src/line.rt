@@ -1,5 +1,4 @@
-// What the documentation sector of one line says.
-use crate::say;
+// What the documentation sector of one line says, put behind a row.
 use document::modes::Mirror;
 use document::modes::Scan;
 use document::modes::ScanMode;
@@ -9,94 +8,100 @@ use document_stamps::dates::Dated;
 use document_stamps::lines::LineNumbers;
 use document_stamps::lines::Numbered;
 use stamps::dates::DateTime;
+use text::Row;
 
-// The byte of a scan mode.
-fn mode_byte(m: ScanMode) -> u8 {
+// A byte that names nothing.
+fn unnamed(row: Row, b: u8) -> Row {
+    row.words(b"unnamed ").number(b as u64)
+}
+
+fn say_mode(row: Row, m: ScanMode) -> Row {
     match m {
-        ScanMode::Full => 0x00,
-        ScanMode::Limited => 0x0F,
-        ScanMode::Single => 0xFF,
-        ScanMode::Unnamed(b) => b,
+        ScanMode::Full => row.words(b"full"),
+        ScanMode::Limited => row.words(b"limited"),
+        ScanMode::Single => row.words(b"single"),
+        ScanMode::Unnamed(b) => unnamed(row, b),
     }
 }
 
-// The byte of a mirror.
-fn mirror_byte(m: Mirror) -> u8 {
+fn say_mirror(row: Row, m: Mirror) -> Row {
     match m {
-        Mirror::OneA => 0xFF,
-        Mirror::OneB => 0xF0,
-        Mirror::TwoA => 0x00,
-        Mirror::TwoB => 0x0F,
-        Mirror::Unnamed(b) => b,
+        Mirror::OneA => row.words(b"1-A"),
+        Mirror::OneB => row.words(b"1-B"),
+        Mirror::TwoA => row.words(b"2-A"),
+        Mirror::TwoB => row.words(b"2-B"),
+        Mirror::Unnamed(b) => unnamed(row, b),
     }
 }
 
-fn mode(format: u8, plain: &[u8]) {
+fn mode(row: Row, format: u8, plain: &[u8]) -> Row {
     match document::modes::scan_mode(format, plain) {
-        Scan::Is(m) => say::number(b" mode ", say::byte(mode_byte(m))),
-        Scan::Refused(k) => say::refused(b" mode", k),
+        Scan::Is(m) => say_mode(row.words(b" mode "), m),
+        Scan::Refused(k) => row.words(b" mode").refused(k),
     }
 }
 
-fn mirror(format: u8, plain: &[u8]) {
+fn mirror(row: Row, format: u8, plain: &[u8]) -> Row {
     match document::modes::scanner_select(format, plain) {
-        Scanner::Is(m) => say::number(b" mirror ", say::byte(mirror_byte(m))),
-        Scanner::Refused(k) => say::refused(b" mirror", k),
+        Scanner::Is(m) => say_mirror(row.words(b" mirror "), m),
+        Scanner::Refused(k) => row.words(b" mirror").refused(k),
     }
 }
 
-// The three counts, and whether the line lies behind its set line or ahead of it.
-fn say_numbers(n: LineNumbers) {
-    say::number(b" set ", say::short(n.set_line));
-    say::number(b" reset ", say::short(n.reset_line));
-    say::number(b" count ", say::short(n.scan_count));
-    if n.position < 0 {
-        say::text(b" behind");
-        return;
-    }
-    say::text(b" ahead");
+fn say_numbers(row: Row, n: LineNumbers) -> Row {
+    row.words(b" set ")
+        .number(n.set_line as u64)
+        .words(b" reset ")
+        .number(n.reset_line as u64)
+        .words(b" count ")
+        .number(n.scan_count as u64)
+        .words(b" position ")
+        .signed(n.position)
 }
 
-fn numbers(format: u8, plain: &[u8]) {
+fn numbers(row: Row, format: u8, plain: &[u8]) -> Row {
     match document_stamps::lines::line_numbers(format, plain) {
-        Numbered::Is(n) => say_numbers(n),
-        Numbered::Refused(k) => say::refused(b" set", k),
+        Numbered::Is(n) => say_numbers(row, n),
+        Numbered::Refused(k) => row.words(b" set").refused(k),
     }
 }
 
-fn say_date(d: DateTime) {
-    say::number(b" date ", say::short(d.year));
-    say::number(b" ", say::byte(d.month));
-    say::number(b" ", say::byte(d.day));
-    say::number(b" ", say::byte(d.hour));
-    say::number(b" ", say::byte(d.minute));
-    say::number(b" ", say::byte(d.second));
-    say::number(b" ", say::byte(d.hundredths));
+// Two digits behind a sign that parts them from those before.
+fn two(row: Row, sign: &[u8], n: u8) -> Row {
+    row.words(sign).padded(n as u64, 2)
 }
 
-fn date(format: u8, plain: &[u8]) {
+fn say_date(row: Row, d: DateTime) -> Row {
+    let year = row.words(b" date ").padded(d.year as u64, 4);
+    let day = two(two(year, b"-", d.month), b"-", d.day);
+    let time = two(two(two(day, b" ", d.hour), b":", d.minute), b":", d.second);
+    two(time, b".", d.hundredths)
+}
+
+fn date(row: Row, format: u8, plain: &[u8]) -> Row {
     match document_stamps::dates::date(format, plain) {
-        Dated::Is(d) => say_date(d),
-        Dated::Refused(k) => say::refused(b" date", k),
+        Dated::Is(d) => say_date(row, d),
+        Dated::Refused(k) => row.words(b" date").refused(k),
     }
 }
 
-fn segment(format: u8, plain: &[u8]) {
+fn segment(row: Row, format: u8, plain: &[u8]) -> Row {
     match document::segments::sub_commutation(format, plain) {
-        SubCommutation::Is { segment, repeat } => {
-            say::number(b" segment ", say::byte(segment));
-            say::number(b" repeat ", say::byte(repeat));
-        }
-        SubCommutation::Refused(k) => say::refused(b" segment", k),
+        SubCommutation::Is { segment, repeat } => row.words(b" segment ")
+            .number(segment as u64)
+            .words(b" repeat ")
+            .number(repeat as u64),
+        SubCommutation::Refused(k) => row.words(b" segment").refused(k),
     }
 }
 
 // All of it, for line n.
-pub fn show(format: u8, n: u64, plain: &[u8]) {
-    say::number(b"line ", n);
-    mode(format, plain);
-    mirror(format, plain);
-    numbers(format, plain);
-    date(format, plain);
-    segment(format, plain);
+pub fn row(format: u8, n: u64, plain: &[u8]) -> Row {
+    let modes = mirror(
+        mode(text::empty().words(b"line ").number(n), format, plain),
+        format,
+        plain,
+    );
+    let dated = date(numbers(modes, format, plain), format, plain);
+    segment(dated, format, plain)
 }

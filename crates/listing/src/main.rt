@@ -1,12 +1,19 @@
-// listing [-2] [FILE]: the lines of a recording, of FILE or of standard input, in format 1 or with -2 in format 2. For each
-// line it writes `line N good G filler F`, N from 1, G the accepted ones of the twelve sectors, F the filler bits set in all
-// of them; and at the end `total N`.
+// listing [-2] [FILE]: the lines of a recording. USAGE says what its words are and what it writes.
 //
 // It keeps one line buffer and one piece of the recording, however long that is. What the lines and the sectors are is proved
 // of `reader` and `sectors`; of its own functions it is proved that they are safe and end.
 ghost use Prim.Native.Nat.{_≤_};
-use libc::STDOUT_FILENO;
 use sectors::check::Counted;
+
+const USAGE: [u8; 416] = *b"usage: listing [-2] [FILE]
+Lists the lines of a recording: of FILE, or of standard input where FILE is - or left out.
+  -2   the recording is HiRID, format 2; else it is S-VISSR 2.0, format 1
+It writes for each line
+  line N good G filler F
+N counts from 1, G is how many of its twelve sectors are accepted, F how many filler bits of all twelve are set;
+and at the end, where all of the recording was read
+  total N
+";
 
 // 1 for the answer of a sector that is accepted.
 fn good(answer: u8) -> u64
@@ -46,30 +53,27 @@ fn filler(format: u8, line: &[u8], sector: u8) -> u64
     }
 }
 
-// Writes what is to be said of a line.
-fn show(format: u8, number: u64, line: &[u8]) {
+// The row of a line.
+fn row(format: u8, number: u64, line: &[u8]) -> text::Row {
     let mut fillers: u64 = 0;
     let mut sector: u8 = 1;
     while sector <= 12 {
         fillers = std::num::wrapping_add_u64(fillers, filler(format, line, sector));
         sector += 1;
     }
-    io::write_all(STDOUT_FILENO, b"line ");
-    io::print_decimal(STDOUT_FILENO, number);
-    io::write_all(STDOUT_FILENO, b" good ");
-    io::print_decimal(STDOUT_FILENO, goods(format, line));
-    io::write_all(STDOUT_FILENO, b" filler ");
-    io::print_decimal(STDOUT_FILENO, fillers);
-    io::write_all(STDOUT_FILENO, b"\n");
+    text::empty()
+        .words(b"line ")
+        .number(number)
+        .words(b" good ")
+        .number(goods(format, line))
+        .words(b" filler ")
+        .number(fillers)
 }
 
 fn main() {
     let mut line = [0u8; 44356];
     let mut piece = [0u8; player::PIECE];
-    let mut p = player::opened();
-    if !p.more {
-        return;
-    }
+    let mut p = player::opened(&USAGE, &mut piece);
     let mut lines: u64 = 0;
     let mut turns = u64::MAX;
     while turns > 0 && p.more {
@@ -77,10 +81,12 @@ fn main() {
         p = player::next(p, &mut piece, &mut line);
         if p.whole {
             lines = std::num::wrapping_add_u64(lines, 1);
-            show(p.format, lines, &line);
+            if !row(p.format, lines, &line).write() {
+                return;
+            }
         }
     }
-    io::write_all(STDOUT_FILENO, b"total ");
-    io::print_decimal(STDOUT_FILENO, lines);
-    io::write_all(STDOUT_FILENO, b"\n");
+    if player::ended(p) {
+        text::empty().words(b"total ").number(lines).write();
+    }
 }

@@ -7,7 +7,7 @@ use Rattle.player.specs.declared.Player.{Player}
 
 -- a recording before its first byte
 abbrev pub started : ℤ → ℕ → Player
-started fd format = record { fd = fd; format = format; state = freshState; from = 0; to = 0; whole = false; more = true }
+started fd format = record { fd = fd; format = format; state = freshState; from = 0; to = 0; whole = false; more = true; failed = false }
 
 pub record Places (p : Player) : Type 0 where
   pub order : p .from ≤ p .to

@@ -3,10 +3,12 @@
 //
 // What it reads is the operating system's, and no contract can speak of it: of these functions it is proved that they are
 // safe and end, and that the places in the piece are right. What a line is is proved of `reader`.
+//
+// A program has no exit status. So a recording that cannot be opened or read to its end is told on standard error and is
+// `failed`, and the program keeps back its last line, `total N`.
 ghost use mathlib.Core.Path.{_≡_};
 ghost use Prim.Native.Nat.{_≤_};
 ghost use Rattle.player.specs.Places.{Places, started};
-use libc::STDERR_FILENO;
 use libc::STDIN_FILENO;
 use reader::Answer;
 use reader_record::State;
@@ -15,7 +17,7 @@ use reader_record::State;
 pub const PIECE: usize = 65536;
 
 // Where the playing stands: the file, the format, the reader's record, the bytes of the piece that are still to read, and
-// whether a line is complete (whole) or the recording is at its end (not more).
+// whether a line is complete (whole), the recording is at its end (not more), and that is not its own end (failed).
 pub struct Player {
     pub fd: i32,
     pub format: u8,
@@ -24,6 +26,7 @@ pub struct Player {
     pub to: usize,
     pub whole: bool,
     pub more: bool,
+    pub failed: bool,
 }
 
 // A recording from its first byte.
@@ -38,6 +41,7 @@ pub fn start(fd: i32, format: u8) -> Player
         to: 0,
         whole: false,
         more: true,
+        failed: false,
     }
 }
 
@@ -54,18 +58,32 @@ fn moved(p: Player, state: State, from: usize, to: usize, whole: bool, more: boo
         to: to,
         whole: whole,
         more: more,
+        failed: p.failed,
     }
 }
 
-// The next piece. A read that fails is said on standard error, and ends the recording.
-fn refill(p: Player, piece: &mut [u8; PIECE]) -> Player
+// It breaks off here.
+fn broken(p: Player) -> Player
     ensures { λ r. ⌜ Places r ⌝ }
 {
     let state = p.state;
-    let got = libc::read(p.fd, piece);
-    if got < 0 {
-        io::write_all(STDERR_FILENO, b"the recording cannot be read to its end\n");
+    Player {
+        fd: p.fd,
+        format: p.format,
+        state: state,
+        from: 0,
+        to: 0,
+        whole: false,
+        more: false,
+        failed: true,
     }
+}
+
+// The piece that a read has brought; nothing is the recording's end.
+fn brought(p: Player, got: isize, piece: &[u8; PIECE]) -> Player
+    ensures { λ r. ⌜ Places r ⌝ }
+{
+    let state = p.state;
     if got <= 0 {
         return moved(p, state, 0, 0, false, false);
     }
@@ -76,7 +94,19 @@ fn refill(p: Player, piece: &mut [u8; PIECE]) -> Player
     moved(p, state, 0, n, false, true)
 }
 
-// One call of the reader. A refused one, of which there is none with a full-size line buffer, ends the recording.
+// The next piece.
+fn refill(p: Player, piece: &mut [u8; PIECE]) -> Player
+    ensures { λ r. ⌜ Places r ⌝ }
+{
+    let got = libc::read(p.fd, piece);
+    if got < 0 {
+        os::fail(b"the recording broke off");
+        return broken(p);
+    }
+    brought(p, got, piece)
+}
+
+// One call of the reader. A refused one, of which there is none with a full-size line buffer, breaks it off.
 fn step(p: Player, piece: &[u8], line: &mut [u8]) -> Player
     requires { ⌜ Places p ⌝ }
     ensures { λ r. ⌜ Places r ⌝ }
@@ -88,7 +118,10 @@ fn step(p: Player, piece: &[u8], line: &mut [u8]) -> Player
         return moved(p, before, 0, 0, false, false);
     }
     match reader::read(p.format, before, &piece[from..to], line) {
-        Answer::Refused(_) => moved(p, before, from, to, false, false),
+        Answer::Refused(k) => {
+            text::empty().words(b"the reader").refused(k).tell();
+            broken(p)
+        }
         Answer::More { taken, state } => on(p, state, taken, false),
         Answer::Line { taken, state } => on(p, state, taken, true),
     }
@@ -138,54 +171,88 @@ fn turn(p: Player, piece: &mut [u8; PIECE], line: &mut [u8]) -> Player
     step(p, piece, line)
 }
 
-// Whether a text is -2.
-fn is_two(text: &[u8]) -> bool {
-    if text.len() != 2 {
-        return false;
-    }
-    text[0] == b'-' && text[1] == b'2'
+// A recording that is not played: the words ask for none, or it cannot be opened.
+fn none() -> Player
+    ensures { λ r. ⌜ Places r ⌝ }
+{
+    broken(start(STDIN_FILENO, 1))
 }
 
-// Whether argument i is there, and is -2.
-fn second_format(i: usize) -> bool {
-    if os::arg_count() <= i {
-        return false;
+// A recording of a name, which tells it where its first piece cannot be read: a folder opens as a file does.
+fn begun(fd: i32, format: u8, name: &[u8], piece: &mut [u8; PIECE]) -> Player
+    ensures { λ r. ⌜ Places r ⌝ }
+{
+    let got = libc::read(fd, piece);
+    if got < 0 {
+        os::fail(name);
+        return none();
     }
-    let mut text = io::buffer();
-    let n = os::arg(i, &mut text);
-    is_two(&text[..n])
+    brought(start(fd, format), got, piece)
 }
 
-// The file that argument i names, or standard input where there is none; below 0, and said on standard error, where it cannot
-// be opened.
-fn open(i: usize) -> i32 {
-    if os::arg_count() <= i {
-        return STDIN_FILENO;
+fn standard(format: u8, piece: &mut [u8; PIECE]) -> Player
+    ensures { λ r. ⌜ Places r ⌝ }
+{
+    begun(STDIN_FILENO, format, b"standard input", piece)
+}
+
+// The recording of a file; standard input where its name is a minus sign.
+fn of_file(name: &[u8], format: u8, piece: &mut [u8; PIECE]) -> Player
+    ensures { λ r. ⌜ Places r ⌝ }
+{
+    if name.len() == 1 {
+        if name[0] == b'-' {
+            return standard(format, piece);
+        }
     }
-    let mut path = io::buffer();
-    let n = os::arg(i, &mut path);
-    let fd = os::open_read(&path[..n]);
+    let fd = os::open_read(name);
     if fd < 0 {
-        os::fail(&path[..n]);
+        os::fail(name);
+        return none();
     }
-    fd
+    begun(fd, format, name, piece)
 }
 
-// The recording that the command line names: [-2] [FILE]. Not more where it cannot be opened.
-pub fn opened() -> Player
+// The file that the word at a place names.
+fn of_word(place: usize, format: u8, piece: &mut [u8; PIECE]) -> Player
     ensures { λ r. ⌜ Places r ⌝ }
 {
-    if second_format(1) {
-        return ready(open(2), 2);
-    }
-    ready(open(1), 1)
+    let mut name = io::buffer();
+    let n = os::arg(place, &mut name);
+    of_file(&name[..n], format, piece)
 }
 
-// Not more where the file could not be opened.
-fn ready(fd: i32, format: u8) -> Player
+// The recording that the words ask for, [-2] [FILE] in any order, with its first piece. Not more where they are not served, help
+// is asked for, or the file cannot be read; that is then told, with the usage text where it is the words.
+pub fn opened(usage: &[u8], piece: &mut [u8; PIECE]) -> Player
     ensures { λ r. ⌜ Places r ⌝ }
 {
-    let p = start(fd, format);
-    let state = p.state;
-    moved(p, state, 0, 0, false, fd >= 0)
+    let asked = command::asked_for(1);
+    if !command::goes_on(asked, usage) {
+        return none();
+    }
+    if asked.first == 0 {
+        return standard(asked.format, piece);
+    }
+    of_word(asked.first, asked.format, piece)
+}
+
+// Whether the recording was read to its own end. One that stops inside a line is told.
+pub fn ended(p: Player) -> bool {
+    if p.failed {
+        return false;
+    }
+    let s = p.state;
+    if s.in_line {
+        unfinished(s.position);
+    }
+    true
+}
+
+fn unfinished(bits: usize) {
+    text::empty()
+        .words(b"an unfinished line, ")
+        .number(bits as u64)
+        .words(b" of 354848 bits")
+        .tell();
 }

@@ -4,6 +4,7 @@ use Rattle.rack.specs.UniqueAcross.{UniqueAcross}
 
 pub unique-across : UniqueAcross
 unique-across = record {
+  version = equation _;
   format-of = λ f. equation _;
   stepped = λ register. equation _;
   step = λ register. equations _ _;

@@ -39,6 +39,7 @@ use Rattle.rack_number.specs.declared.FloatAnswer.{FloatAnswer}
 use Rattle.rack_number.specs.Number.{integerGiven, bcdGiven, realGiven, floatGiven}
 use Rattle.rack_ground.specs.declared.FormatAnswer.{FormatAnswer}
 use Rattle.rack_ground.specs.declared.StepAnswer.{StepAnswer}
+use Rattle.rack_ground.specs.Ground as ground
 use Rattle.rack_ground.specs.Ground.{formatGiven, stepGiven, syncGiven}
 use Rattle.rack_recording.specs.declared.ReaderState.{ReaderState}
 use Rattle.rack_recording.specs.declared.ReadAnswer.{ReadAnswer}
@@ -57,6 +58,8 @@ use Rattle.rack_blocks.specs.declared.OrbitAnswer.{OrbitAnswer}
 use Rattle.rack_blocks.specs.Assembly.{marksOf, addGiven, gridGiven, orbitGiven}
 
 pub record UniqueAcross : Type 0 where
+  -- the version
+  pub version : One (λ (r : ℕ). r ≡ ground.version)
   -- formats, register, SYNC
   pub format-of : (f : ℕ) → One (λ (r : FormatAnswer). r ≡ formatGiven (formatOf f))
   pub stepped : (register : ℕ) → One (λ (r : StepAnswer). r ≡ stepGiven (stepAnswer register) (registerLeft register))

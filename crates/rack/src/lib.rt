@@ -1,7 +1,7 @@
 // The library for the board, as a whole: there is no code here. Its calls, for C and Rust, are those of six crates, and
 // `library/build` makes one archive of them:
 //
-//   rack_ground     formats, register, SYNC
+//   rack_ground     the version; formats, register, SYNC
 //   rack_recording  the reader and the writer of recordings
 //   rack_sector     the twelve sectors of one plain line, read and written
 //   rack_number     the numbers of the documentation fields; the answers that the others give too

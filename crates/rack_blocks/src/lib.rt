@@ -1,7 +1,8 @@
 // Blocks put together out of segments, and the entries of a finished block, for C and Rust. Each function hands its numbers
-// and slices on to the call of the same name in `blocks` and lays that call's answer out as one struct of numbers: `refused`
-// is 0 or the number of the refusal, and a refused answer has 0 in every other field. The marks of an assembly cross as one
-// number: bit s is set once segment s is stored; they come back as they were handed in where a call is refused.
+// and slices on to the call of the same name in `blocks`, `segments`, `entries` or `calibration` and lays that call's answer out as
+// one struct of numbers: `refused` is 0 or the number of the refusal, and a refused answer has 0 in every other field. The marks
+// of an assembly cross as one number: bit s is set once segment s is stored; they come back as they were handed in where a call
+// is refused.
 //
 // The contracts cite `specs/Assembly.antt`, and `rack_number` for the answers that are a number's, over the definitions of the
 // calls themselves. No function has a `requires`: nothing checks a caller in C.

@@ -1,6 +1,6 @@
 // The fields of the documentation sector for C and Rust. Each function hands its numbers and slices on to the call of the same
-// name in `document` and lays that call's answer out as one struct of numbers: `refused` is 0 or the number of the refusal,
-// and a refused answer has 0 in every other field.
+// name in `document`, `document_stamps` or `document_fields` and lays that call's answer out as one struct of numbers: `refused` is
+// 0 or the number of the refusal, and a refused answer has 0 in every other field.
 //
 // The contracts cite `specs/Documentation.antt`, and `rack_number` for the answers that are a number's, over the definitions
 // of the calls themselves. No function has a `requires`: nothing checks a caller in C.

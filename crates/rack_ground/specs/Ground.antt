@@ -1,6 +1,6 @@
 -- The answers of the calls about formats, register and SYNC as one struct of numbers each, over the paper's number and values of
 -- the call's own answer: a refused one has its number and 0 elsewhere, but for a register, which comes back. Assumes nothing.
-use Prim.Native.Nat.{ℕ}
+use Prim.Native.Nat.{ℕ, _+_, _*_}
 use Rattle.formats.specs.Formats.{formatNumber, formatIn}
 use Rattle.formats.specs.declared.FormatAnswer as formats
 use Rattle.scramble.specs.Step.{stepNumber, stepBit}
@@ -11,6 +11,10 @@ use Rattle.rack_number.specs.declared.CountAnswer.{CountAnswer}
 use Rattle.rack_number.specs.Number.{countGiven}
 use Rattle.rack_ground.specs.declared.FormatAnswer.{FormatAnswer}
 use Rattle.rack_ground.specs.declared.StepAnswer.{StepAnswer}
+
+-- the version of the library, 0.2.0, as one number: ten thousand times its first part, a hundred times its second, its third
+abbrev pub version : ℕ
+version = 10000 * 0 + 100 * 2 + 0
 
 unfoldable pub formatGiven : formats.FormatAnswer → FormatAnswer
 formatGiven a = record {

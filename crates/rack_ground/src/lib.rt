@@ -1,6 +1,7 @@
-// Formats, the scrambling register and SYNC for C and Rust. Each function hands its numbers and slices on to the call of the
-// same name in `formats`, `scramble` or `sync` and lays that call's answer out as one struct of numbers: `refused` is 0 or the
-// number of the refusal, and a refused answer has 0 in every other field, but for a register, which comes back as it was.
+// The version of the library; formats, the scrambling register and SYNC for C and Rust. But for the version each function
+// hands its numbers and slices on to the call of the same name in `formats`, `scramble` or `sync` and lays that call's answer
+// out as one struct of numbers: `refused` is 0 or the number of the refusal, and a refused answer has 0 in every other field,
+// but for a register, which comes back as it was.
 //
 // The contracts cite `specs/Ground.antt`, one definition for each answer, over the definitions of the calls themselves. No
 // function has a `requires`: nothing checks a caller in C.
@@ -10,7 +11,7 @@ ghost use mathlib.Core.Path.{_≡_};
 ghost use Rattle.formats.specs.Formats.{formatOf};
 ghost use Rattle.scramble.specs.Step.{stepAnswer, registerLeft};
 ghost use Rattle.sync.specs.Put.{putSyncAnswer, putSyncLeft};
-ghost use Rattle.rack_ground.specs.Ground.{formatGiven, stepGiven, syncGiven};
+ghost use Rattle.rack_ground.specs.Ground.{version, formatGiven, stepGiven, syncGiven};
 use formats::Format;
 use rack_number::CountAnswer;
 use scramble::Register;
@@ -34,6 +35,14 @@ pub struct StepAnswer {
     pub refused: u8,
     pub bit: u8,
     pub register: u16,
+}
+
+// The version of the library as one number, so that a caller sees whether its declarations are of the same one.
+#[no_mangle]
+pub extern "C" fn hansobrik_version() -> u32
+    ensures { λ r. ⌜ r ≡ version ⌝ }
+{
+    200
 }
 
 // Inner. A format as it crosses the boundary.

@@ -1,7 +1,7 @@
 // The numbers of the documentation fields, read and written at the front of a slice, for C and Rust; and the answers that the
 // other crates of the boundary give too. Each function hands its numbers and slices on to the call of the same name in
-// `numbers` and lays that call's answer out as one struct of numbers: `refused` is 0 or the number of the refusal, and a
-// refused answer has 0 in every other field.
+// `numbers` or `number_writer` and lays that call's answer out as one struct of numbers: `refused` is 0 or the number of the
+// refusal, and a refused answer has 0 in every other field.
 //
 // The contracts cite `specs/Number.antt`, one definition for each answer, over the definitions of the calls themselves. No
 // function has a `requires`: nothing checks a caller in C.

@@ -18,11 +18,12 @@ use reader_record::State;
 use refusals::first;
 use writer::Written;
 
-// What a reader keeps between calls, laid out without gaps. `in_line` is 1 in a line and 0 between lines; a record with
-// another number there is impossible. The other fields are those of `reader_record::State`.
+// What a reader keeps between calls, laid out without gaps and in widths that no machine changes, since a caller may store it.
+// `in_line` is 1 in a line and 0 between lines; a record with another number there is impossible. The other fields are those of
+// `reader_record::State`.
 #[repr(C)]
 pub struct ReaderState {
-    pub position: usize,
+    pub position: u64,
     pub search: u64,
     pub register: u16,
     pub in_line: u8,
@@ -49,7 +50,7 @@ fn handed(s: ReaderState) -> State
 {
     State {
         in_line: s.in_line == 1,
-        position: s.position,
+        position: s.position as usize,
         search: s.search,
         search_count: s.search_count,
         register: s.register,
@@ -69,7 +70,7 @@ fn kept(s: State) -> ReaderState
         flag = 1;
     }
     ReaderState {
-        position: s.position,
+        position: s.position as u64,
         search: s.search,
         register: s.register,
         in_line: flag,

@@ -1,6 +1,6 @@
 // The twelve sectors of one plain line, read and written, for C and Rust. Each function hands its numbers and slices on to
-// the call of the same name in `sectors` or `sector_writer`. A number that comes back alone is 0 or that of the refusal; an
-// answer of more is one struct of numbers, with 0 in every other field where `refused` is not 0.
+// the call of the same name in `sectors`, `pixels`, `channels`, `visible` or `sector_writer`. A number that comes back alone is 0 or
+// that of the refusal; an answer of more is one struct of numbers, with 0 in every other field where `refused` is not 0.
 //
 // The contracts cite the definitions of the calls, and `specs/Sector.antt` for each struct. No function has a `requires`:
 // nothing checks a caller in C.

@@ -35,7 +35,7 @@ module _ (W : ℕ) (test : List ℕ → Bool) (N : ℕ) (plain : List ℕ → Li
   linesUpTo zero bs = []
   linesUpTo (suc n) bs = lineThen N plain (λ rest. linesUpTo n rest) (afterTail W test bs)
 
-  -- the lines: there are no more of them than bits (`linesOf-eq` says it without the count)
+  -- the lines: there are no more of them than bits (`linesOf-eq` in `cuts/proofs/Windows` says it without the count)
   unfoldable pub linesOf : List ℕ → List (List ℕ)
   linesOf bs = linesUpTo (length bs) bs
 

@@ -1,17 +1,21 @@
-// signal [N [FORMAT]]: a training recording on standard output, N lines (10) in format 1 or 2 (1), for a class that plays
-// when the card is away. `pattern` says what stands in a line.
+// signal [N [FORMAT]]: a training recording on standard output, for a class that plays when the card is away. USAGE says what its
+// words are; `pattern` says what stands in a line.
 //
 // The program only makes bytes and hands them on: what a sector and a line on the wire are is proved of `sector_writer` and
 // `writer`. Of its own functions it is proved that they are safe and end.
 ghost use Prim.Native.Nat.{_*_, _+_, _≤_, _<_};
-use libc::STDERR_FILENO;
 use libc::STDOUT_FILENO;
+use words::Asked;
 use writer::Written;
 
 mod pattern;
 
-// The most lines of one recording: a week.
-const MOST: u64 = 1000000;
+const USAGE: [u8; 286] = *b"usage: signal [-2] [N [FORMAT]]
+Writes a training recording of N lines, 0 to 1000000, to standard output; 10 where N is left out.
+  FORMAT   1 is S-VISSR 2.0, as where it is left out, 2 is HiRID
+  -2       the same as FORMAT 2
+Standard error says `total N` where all of it was written.
+";
 
 // The first bytes of a line on the wire to standard output; false where they cannot be written.
 fn send(wire: &[u8], bytes: usize) -> bool {
@@ -34,77 +38,47 @@ fn one(format: u8, k: u64) -> bool
     }
 }
 
-// n lines, up to the first that cannot be written.
+// n lines, up to the first that cannot be written. The recording has no room for a last line of text: it is told.
 fn play(format: u8, n: u64)
     requires { ⌜ n ≤ 1000000 ⌝ }
 {
     let mut k: u64 = 0;
     while k < n {
         if !one(format, k) {
-            io::write_all(STDERR_FILENO, b"signal: the recording cannot be written\n");
+            os::fail(b"standard output");
             return;
         }
         k += 1;
     }
+    text::empty().words(b"total ").number(n).tell();
 }
 
-// The number that decimal digits write; more than MOST where it is larger or something else stands there.
-fn number(text: &[u8]) -> u64 {
-    if text.len() == 0 {
-        return MOST + 1;
+// The format that the words ask for; 0 where they do not agree.
+fn format_of(asked: Asked) -> u64 {
+    let format = command::number_at(asked.second, asked.format as u64);
+    if format == 1 && asked.format == 2 {
+        return 0;
     }
-    let mut v: u64 = 0;
-    let mut i: usize = 0;
-    while i < text.len() {
-        v = longer(v, text[i]);
-        i += 1;
-    }
-    v
-}
-
-// One digit more.
-fn longer(v: u64, c: u8) -> u64
-    ensures { λ r. ⌜ r ≤ 10000009 ⌝ }
-{
-    if c < b'0' {
-        return MOST + 1;
-    }
-    if b'9' < c {
-        return MOST + 1;
-    }
-    if MOST < v {
-        return MOST + 1;
-    }
-    v * 10 + (c - b'0') as u64
-}
-
-// Argument i as a number, or what is meant where it is not given.
-fn argument(i: usize, otherwise: u64) -> u64 {
-    if os::arg_count() <= i {
-        return otherwise;
-    }
-    let mut text = io::buffer();
-    let n = os::arg(i, &mut text);
-    number(&text[..n])
+    format
 }
 
 fn main() {
-    let lines = argument(1, 10);
-    let format = argument(2, 1);
-    if MOST < lines {
-        io::write_all(
-            STDERR_FILENO,
-            b"signal: the number of lines is 0 to 1000000\n",
+    let asked = command::asked_for(2);
+    if !command::goes_on(asked, &USAGE) {
+        return;
+    }
+    let lines = command::number_at(asked.first, 10);
+    if words::MOST < lines {
+        command::refuse_word(
+            b"not a number of lines, 0 to 1000000: ",
+            asked.first,
+            &USAGE,
         );
         return;
     }
-    if format == 1 {
-        play(1, lines);
-        return;
+    match format_of(asked) {
+        1 => play(1, lines),
+        2 => play(2, lines),
+        _ => command::refuse_word(b"not the format, 1 or 2: ", asked.second, &USAGE),
     }
-    if format == 2 {
-        play(2, lines);
-        return;
-    }
-    io::write_all(STDERR_FILENO, b"signal: the format is 1 or 2\n");
 }

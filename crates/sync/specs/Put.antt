@@ -12,7 +12,8 @@ use Rattle.scramble.specs.Sync.{SYNC}
 use Rattle.sync.specs.declared.SyncPut.{SyncPut}
 use Rattle.sync.specs.declared.SyncPut.the-variants.{Refused, Put}
 
--- the register before the first bit of a SYNC of n bits, of the two lengths that the formats have (`sync-from`)
+-- the register before the first bit of a SYNC of n bits, of the two lengths that the formats have: that the bits from it on are SYNC
+-- is `sync-from` (`sync/proofs/Opening`)
 unfoldable pub beforeSync : ℕ → ℕ
 beforeSync n = cond (eqb n 10000) 0x339f 0x61df
 

@@ -139,7 +139,7 @@ pub struct GridPoint {
 }
 
 /// The bytes of a block from a place on, counted from 1.
-fn from_place(buffer: &[u8], place: usize) -> &[u8] {
+pub fn from_place(buffer: &[u8], place: usize) -> &[u8] {
     &buffer[place - 1..]
 }
 

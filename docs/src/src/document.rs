@@ -56,6 +56,16 @@ impl ScanMode {
         }
     }
 
+    /// Its name, or the byte that has none.
+    pub fn name(self) -> String {
+        match self {
+            ScanMode::Full => "full".to_string(),
+            ScanMode::Limited => "limited".to_string(),
+            ScanMode::Single => "single".to_string(),
+            ScanMode::Unnamed(byte) => format!("unnamed {byte}"),
+        }
+    }
+
     /// The byte that stands for it.
     pub fn number(self) -> u8 {
         match self {
@@ -86,6 +96,17 @@ impl ScannerSelect {
             0x00 => ScannerSelect::Mirror2A,
             0x0F => ScannerSelect::Mirror2B,
             other => ScannerSelect::Unnamed(other),
+        }
+    }
+
+    /// Its name, or the byte that has none.
+    pub fn name(self) -> String {
+        match self {
+            ScannerSelect::Mirror1A => "1-A".to_string(),
+            ScannerSelect::Mirror1B => "1-B".to_string(),
+            ScannerSelect::Mirror2A => "2-A".to_string(),
+            ScannerSelect::Mirror2B => "2-B".to_string(),
+            ScannerSelect::Unnamed(byte) => format!("unnamed {byte}"),
         }
     }
 

@@ -4,31 +4,52 @@
 //!
 //! Each line N, from 1, gives one row, all of it with single spaces:
 //! ```text
-//! line N mode M mirror S set A reset B count C W date Y M D h m s c segment S repeat R blocks a b c d e
+//! line N mode M mirror R set A reset B count C position P date D segment S repeat T blocks a b c d e
 //! ```
-//! A call refused with K gives `mode refused K`, `mirror refused K`,
-//! `set refused K` (for all four line numbers), `date refused K` or
-//! `segment refused K` (for segment and repeat). Behind `blocks` stand the
-//! answers of adding the line's segment to the blocks 1 to 5, 0 or a refusal.
+//! M and R are names, or `unnamed` and the byte; P is signed; D is a date and a
+//! time as in `2005-01-01 00:00:00.00`. A call refused with K gives
+//! `mode refused K`, `mirror refused K`, `set refused K` (for all four line
+//! numbers), `date refused K` or `segment refused K` (for segment and repeat).
+//! Behind `blocks` stand the answers of adding the line's segment to the blocks
+//! 1 to 5, 0 or a refusal.
 //!
-//! After the last line come, in this order: the marks of the five blocks, some
-//! grid points, some albedos, some temperatures, and the number of lines.
+//! After the last line come, in this order: how many segments each block has;
+//! of the finished ones some grid points, the orbital elements, some albedos
+//! and some temperatures; and the number of lines.
 
-use crate::blocks::{self, BLOCKS, CALIBRATION_2, MAPPING};
+use crate::blocks::{self, from_place, ALL_MARKS, BLOCKS, CALIBRATION_2, MAPPING, ORBIT};
 use crate::document;
 use crate::listing;
-use crate::numbers::R;
+use crate::numbers::{self, R};
 use crate::reader::Recording;
 use crate::refusal::Refusal;
 
-/// The grid points asked for at the end; the last one is not in the block.
-const POINTS: [(usize, usize); 6] = [(0, 0), (0, 24), (24, 0), (24, 24), (12, 13), (25, 0)];
+/// The names of the blocks, in the order of their numbers.
+const NAMES: [&str; 5] = [
+    "mapping",
+    "orbit",
+    "MANAM",
+    "calibration-1",
+    "calibration-2",
+];
 
-/// The levels asked of each visible channel; the last one is not in the block.
-const VIS_LEVELS: [usize; 4] = [0, 1, 63, 64];
+/// The grid points asked for at the end: the corners, and one within.
+const POINTS: [(usize, usize); 5] = [(0, 0), (0, 24), (24, 0), (24, 24), (12, 13)];
 
-/// The levels asked of each infrared channel; the last one is not in the block.
-const IR_LEVELS: [usize; 4] = [0, 511, 1_023, 1_024];
+/// The orbital elements: name, place in the block, decimal places.
+const ELEMENTS: [(&str, usize, usize); 7] = [
+    ("epoch", 157, 8),
+    ("axis", 163, 8),
+    ("eccentricity", 169, 10),
+    ("inclination", 175, 8),
+    ("node", 181, 8),
+    ("perigee", 187, 8),
+    ("anomaly", 193, 8),
+];
+
+/// The levels asked of each visible and of each infrared channel.
+const VIS_LEVELS: [usize; 3] = [0, 32, 63];
+const IR_LEVELS: [usize; 3] = [0, 512, 1_023];
 
 /// The text of an answer, or `refused K`.
 fn or_refused<T>(answer: Result<T, Refusal>, text: impl Fn(T) -> String) -> String {
@@ -40,24 +61,19 @@ fn or_refused<T>(answer: Result<T, Refusal>, text: impl Fn(T) -> String) -> Stri
 
 /// The row of a plain line, up to its segment and repeat.
 fn groups(format_number: usize, number: usize, line: &[u8]) -> String {
-    let mode = or_refused(document::scan_mode(format_number, line), |mode| {
-        mode.number().to_string()
-    });
+    let mode = or_refused(document::scan_mode(format_number, line), |mode| mode.name());
     let mirror = or_refused(document::scanner_select(format_number, line), |mirror| {
-        mirror.number().to_string()
+        mirror.name()
     });
     let set = or_refused(document::line_numbers(format_number, line), |n| {
         format!(
-            "{} reset {} count {} {}",
-            n.set_line,
-            n.reset_line,
-            n.scan_count,
-            if n.line_position < 0 { "behind" } else { "ahead" }
+            "{} reset {} count {} position {}",
+            n.set_line, n.reset_line, n.scan_count, n.line_position
         )
     });
     let date = or_refused(document::date(format_number, line), |d| {
         format!(
-            "{} {} {} {} {} {} {}",
+            "{:04}-{:02}-{:02} {:02}:{:02}:{:02}.{:02}",
             d.year, d.month, d.day, d.hour, d.minute, d.second, d.hundredths
         )
     });
@@ -67,22 +83,26 @@ fn groups(format_number: usize, number: usize, line: &[u8]) -> String {
     format!("line {number} mode {mode} mirror {mirror} set {set} date {date} segment {segment}")
 }
 
-/// What stands behind an entry of calibration-2.
+/// What stands behind an entry's name.
 fn entry(answer: Result<R, Refusal>) -> String {
-    or_refused(answer, |r| {
-        format!(
-            "negative {} magnitude {} places {}",
-            u8::from(r.negative),
-            r.magnitude,
-            r.places
-        )
-    })
+    or_refused(answer, |r| r.to_string())
+}
+
+/// Degrees from 0 on one side or the other.
+fn degrees(n: i32, above: &str, below: &str) -> String {
+    format!("{} {}", n.abs(), if n < 0 { below } else { above })
 }
 
 /// The marks and the buffer of one block.
 struct Assembly {
     marks: u32,
     buffer: Vec<u8>,
+}
+
+impl Assembly {
+    fn finished(&self) -> bool {
+        self.marks == ALL_MARKS
+    }
 }
 
 /// The assemblies of the blocks 1 to 5, and how many lines went into them.
@@ -117,41 +137,81 @@ impl Assemblies {
         row
     }
 
-    /// The rows after the last line.
-    fn end(&self) -> Vec<String> {
+    /// How many segments each block has. HiRID has no calibration-2.
+    fn segments(&self) -> Vec<String> {
         let mut rows = Vec::new();
-        for (index, block) in self.blocks.iter().enumerate() {
-            rows.push(format!("block {} marks {}", index + 1, block.marks));
+        for (name, block) in NAMES.iter().zip(&self.blocks) {
+            rows.push(format!("{name} {}/25", block.marks.count_ones()));
         }
+        if self.format == 2 {
+            rows[CALIBRATION_2 - 1] = "calibration-2 not in HiRID".to_string();
+        }
+        rows
+    }
 
+    fn mapping(&self) -> Vec<String> {
         let Assembly { marks, buffer } = &self.blocks[MAPPING - 1];
-        for (row, column) in POINTS {
+        let point = |&(row, column): &(usize, usize)| {
             let point = blocks::mapping(self.format, *marks, buffer, row, column);
             let point = or_refused(point, |p| {
                 format!(
-                    "line {} pixel {} {}",
+                    "line {} pixel {} latitude {} longitude {}",
                     p.line,
                     p.pixel,
-                    if p.latitude < 0 { "south" } else { "north" }
+                    degrees(p.latitude, "north", "south"),
+                    degrees(p.longitude, "east", "west")
                 )
             });
-            rows.push(format!("mapping {row} {column} {point}"));
-        }
+            format!("mapping row {row} column {column} {point}")
+        };
+        POINTS.iter().map(point).collect()
+    }
 
+    /// The elements with all their places, read where the block has them; that
+    /// the call in f64 reads the same is another test.
+    fn orbit(&self) -> String {
+        let Assembly { marks, buffer } = &self.blocks[ORBIT - 1];
+        let element = |&(name, place, m): &(&str, usize, usize)| {
+            let number = numbers::read_r(from_place(buffer, place), 6, m);
+            format!(" {name} {}", entry(number))
+        };
+        let elements = or_refused(
+            blocks::orbital_elements(self.format, *marks, buffer),
+            |_| ELEMENTS.iter().map(element).collect(),
+        );
+        format!("orbit{elements}")
+    }
+
+    fn levels(&self) -> Vec<String> {
         let Assembly { marks, buffer } = &self.blocks[CALIBRATION_2 - 1];
+        let mut rows = Vec::new();
         for v in 1..=4 {
             for level in VIS_LEVELS {
                 let albedo = entry(blocks::albedo(self.format, *marks, buffer, v, level));
-                rows.push(format!("albedo {v} {level} {albedo}"));
+                rows.push(format!("albedo VIS{v} level {level} {albedo}"));
             }
         }
         for c in 1..=4 {
             for level in IR_LEVELS {
                 let temperature = entry(blocks::temperature(self.format, *marks, buffer, c, level));
-                rows.push(format!("temperature {c} {level} {temperature}"));
+                rows.push(format!("temperature IR{c} level {level} {temperature}"));
             }
         }
+        rows
+    }
 
+    /// The rows after the last line.
+    fn end(&self) -> Vec<String> {
+        let mut rows = self.segments();
+        if self.blocks[MAPPING - 1].finished() {
+            rows.extend(self.mapping());
+        }
+        if self.blocks[ORBIT - 1].finished() {
+            rows.push(self.orbit());
+        }
+        if self.blocks[CALIBRATION_2 - 1].finished() {
+            rows.extend(self.levels());
+        }
         rows.push(listing::total(self.lines));
         rows
     }
@@ -183,5 +243,10 @@ impl Fields {
     /// The rows after the last line.
     pub fn end(&self) -> Vec<String> {
         self.assemblies.end()
+    }
+
+    /// How many bits of an unfinished line are in.
+    pub fn unfinished(&self) -> Option<usize> {
+        self.recording.unfinished()
     }
 }

@@ -3,9 +3,14 @@
 //! Document 01 ("S-VISSR 2.0 and HiRID lines: build description and exact
 //! rules") asks that "whole-line vectors and an independent second decoder
 //! are run and compared". This is that second decoder. It is written from
-//! document 01 alone and shares no code with anything else. It is meant to be
+//! document 01, and where that is silent from docs/DECISIONS.md, so that there
+//! its agreement is no evidence ("The second decoder" there has the places). It
+//! shares no code with the crates that it is compared with. It is meant to be
 //! held beside the paper and found right by reading: lists of bits, short
 //! functions, no tricks. Speed does not matter.
+//!
+//! Not the paper's are the training pattern ([`pattern`]), the damage done to
+//! recordings ([`damage`]) and the rows of text ([`fields`]).
 //!
 //! Every call that can refuse gives `Result<_, Refusal>`; `Err(number)` stands
 //! for the paper's "returns its number and 0 elsewhere". A refused call leaves

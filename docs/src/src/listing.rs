@@ -32,6 +32,11 @@ pub fn total(lines: usize) -> String {
     format!("total {lines}")
 }
 
+/// What is said of a recording that stops inside a line.
+pub fn unfinished(bits: usize) -> String {
+    format!("an unfinished line, {bits} of 354848 bits")
+}
+
 /// A listing of a recording that comes in pieces.
 pub struct Listing {
     format: usize,
@@ -61,6 +66,11 @@ impl Listing {
     /// The last row.
     pub fn total(&self) -> String {
         total(self.lines)
+    }
+
+    /// How many bits of an unfinished line are in.
+    pub fn unfinished(&self) -> Option<usize> {
+        self.recording.unfinished()
     }
 }
 

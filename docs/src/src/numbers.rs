@@ -6,6 +6,8 @@
 //!
 //! A number is read from the first n bytes of what is handed in.
 
+use std::fmt;
+
 use crate::bits;
 use crate::refusal::{self, refuse_if, Refusal};
 
@@ -50,6 +52,17 @@ impl R {
         } else {
             quotient
         }
+    }
+}
+
+/// The number in decimal, all its places written: exact, where `value` is not.
+impl fmt::Display for R {
+    fn fmt(&self, f: &mut fmt::Formatter<'_>) -> fmt::Result {
+        let digits = format!("{:0least$}", self.magnitude, least = self.places + 1);
+        let (whole, fraction) = digits.split_at(digits.len() - self.places);
+        let sign = if self.negative { "-" } else { "" };
+        let point = if self.places > 0 { "." } else { "" };
+        write!(f, "{sign}{whole}{point}{fraction}")
     }
 }
 

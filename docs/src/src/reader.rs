@@ -283,4 +283,10 @@ impl Recording {
         }
         Ok(())
     }
+
+    /// How many bits of a line are in, where the recording so far stops inside
+    /// one.
+    pub fn unfinished(&self) -> Option<usize> {
+        self.state.in_line.then_some(self.state.position)
+    }
 }

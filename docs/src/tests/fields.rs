@@ -1,7 +1,7 @@
 //! The rows of `second fields`.
 
-use second::blocks::ALL_MARKS;
 use second::fields::Fields;
+use second::numbers::R;
 use second::pattern;
 use second::sectors;
 
@@ -25,70 +25,103 @@ fn signal_rows(format: usize, n: u64) -> Vec<String> {
 #[test]
 fn a_signal_of_format_1_is_whole() {
     let rows = signal_rows(1, 200);
-    // Lines, marks, grid points, albedos, temperatures, total.
-    assert_eq!(rows.len(), 200 + 5 + 6 + 16 + 16 + 1);
+    // Lines, segments, grid points, orbit, albedos, temperatures, total.
+    assert_eq!(rows.len(), 200 + 5 + 5 + 1 + 12 + 12 + 1);
     assert_eq!(
         rows[0],
-        "line 1 mode 0 mirror 255 set 100 reset 2391 count 100 ahead \
-         date 2005 1 1 0 0 0 0 segment 0 repeat 0 blocks 0 0 0 0 0"
+        "line 1 mode full mirror 1-A set 100 reset 2391 count 100 position 0 \
+         date 2005-01-01 00:00:00.00 segment 0 repeat 0 blocks 0 0 0 0 0"
     );
     assert_eq!(
         rows[199],
-        "line 200 mode 90 mirror 165 set 100 reset 2391 count 299 ahead \
-         date 2005 1 1 0 1 59 40 segment 24 repeat 7 blocks 0 0 0 0 0"
+        "line 200 mode unnamed 90 mirror unnamed 165 set 100 reset 2391 count 299 position 199 \
+         date 2005-01-01 00:01:59.40 segment 24 repeat 7 blocks 0 0 0 0 0"
     );
+    assert!(rows[1].contains(" mode limited mirror 1-B "));
+    assert!(rows[2].contains(" mode single mirror 2-A "));
+    assert!(rows[3].contains(" mirror 2-B "));
     for row in &rows[..200] {
         assert!(!row.contains("refused"), "{row}");
         assert!(row.ends_with(" blocks 0 0 0 0 0"), "{row}");
     }
-    assert_eq!(ALL_MARKS, 33_554_431);
-    for b in 1..=5 {
-        assert_eq!(rows[199 + b], format!("block {b} marks 33554431"));
+    let names = [
+        "mapping",
+        "orbit",
+        "MANAM",
+        "calibration-1",
+        "calibration-2",
+    ];
+    for (row, name) in rows[200..205].iter().zip(names) {
+        assert_eq!(*row, format!("{name} 25/25"));
     }
-
-    // Only the grid point and the eight levels outside the blocks are refused.
-    let refused: Vec<&String> = rows.iter().filter(|row| row.contains("refused")).collect();
-    let mut expected = vec!["mapping 25 0 refused 10".to_string()];
-    expected.extend((1..=4).map(|v| format!("albedo {v} 64 refused 10")));
-    expected.extend((1..=4).map(|c| format!("temperature {c} 1024 refused 10")));
-    assert!(refused.into_iter().eq(&expected));
 
     // Bytes 1-4 of the mapping block, by the pattern: (1 + 97) div 5, ...
     let byte = |b, q| u64::from(pattern::block_byte(b, q));
     let (line, pixel) = (256 * byte(1, 1) + byte(1, 2), 256 * byte(1, 3) + byte(1, 4));
-    let point = format!("mapping 0 0 line {line} pixel {pixel} north");
+    let point = format!(
+        "mapping row 0 column 0 line {line} pixel {pixel} latitude 60 north longitude 45 east"
+    );
     assert_eq!(rows[205], point);
-    assert!(rows[208].ends_with(" south"));
+    assert!(rows[208].starts_with("mapping row 24 column 24 "));
+    assert!(rows[208].ends_with(" latitude 60 south longitude 165 east"));
+    assert!(rows[209].ends_with(" latitude 0 north longitude 110 east"));
 
-    // VIS 1, level 0, at bytes 257-260 of calibration-2; the top bit is a sign.
-    let word = (257..=260).fold(0, |word, q| 256 * word + byte(5, q));
-    let (sign, magnitude) = (word >> 31, word & 0x7FFF_FFFF);
-    let albedo = format!("albedo 1 0 negative {sign} magnitude {magnitude} places 6");
-    assert_eq!(rows[211], albedo);
-    // IR 1, level 1,023, at bytes 5373-5376.
-    let word = (5_373..=5_376).fold(0, |word, q| 256 * word + byte(5, q));
-    let (sign, magnitude) = (word >> 31, word & 0x7FFF_FFFF);
-    let temperature = format!("temperature 1 1023 negative {sign} magnitude {magnitude} places 3");
-    assert_eq!(rows[229], temperature);
-    assert_eq!(rows[243], "total 200");
+    // A number of the pattern at a place: sign, whole part, point, m digits.
+    let number = |b: usize, places: std::ops::RangeInclusive<usize>, m: u32| {
+        let bits = 8 * places.clone().count() - 1;
+        let word = places.fold(0, |word, q| 256 * word + byte(b, q));
+        let (sign, magnitude) = (["", "-"][(word >> bits) as usize], word % (1 << bits));
+        let (whole, rest) = (magnitude / 10_u64.pow(m), magnitude % 10_u64.pow(m));
+        format!("{sign}{whole}.{rest:0width$}", width = m as usize)
+    };
+    // The epoch at bytes 157-162 of the orbit block, the eccentricity at 169-174.
+    assert!(rows[210].starts_with(&format!("orbit epoch {} axis ", number(2, 157..=162, 8))));
+    let eccentricity = format!(" eccentricity {} inclination ", number(2, 169..=174, 10));
+    assert!(rows[210].contains(&eccentricity));
+    assert!(rows[210].ends_with(&format!(" anomaly {}", number(2, 193..=198, 8))));
+
+    // VIS 1, level 0, at bytes 257-260 of calibration-2; IR 1, level 1,023, at
+    // bytes 5373-5376.
+    assert_eq!(
+        rows[211],
+        format!("albedo VIS1 level 0 {}", number(5, 257..=260, 6))
+    );
+    let temperature = format!("temperature IR1 level 1023 {}", number(5, 5_373..=5_376, 3));
+    assert_eq!(rows[225], temperature);
+    assert_eq!(rows[235], "total 200");
+}
+
+/// All places are written, and the sign of a zero.
+#[test]
+fn numbers_in_decimal() {
+    let text = |negative, magnitude, places| {
+        R {
+            negative,
+            magnitude,
+            places,
+        }
+        .to_string()
+    };
+    assert_eq!(text(false, 0, 0), "0");
+    assert_eq!(text(true, 0, 3), "-0.000");
+    assert_eq!(text(false, 7, 3), "0.007");
+    assert_eq!(text(false, 1_234, 3), "1.234");
+    assert_eq!(text(true, 12_340, 1), "-1234.0");
+    assert_eq!(text(false, 1, 15), "0.000000000000001");
 }
 
 #[test]
 fn format_2_has_no_calibration_2() {
     let rows = signal_rows(2, 200);
-    assert_eq!(rows.len(), 244);
+    assert_eq!(rows.len(), 200 + 5 + 5 + 1 + 1);
     for row in &rows[..200] {
         assert!(!row.contains("refused"), "{row}");
         assert!(row.ends_with(" blocks 0 0 0 0 4"), "{row}");
     }
-    for b in 1..=4 {
-        assert_eq!(rows[199 + b], format!("block {b} marks 33554431"));
-    }
-    assert_eq!(rows[204], "block 5 marks 0");
-    for row in &rows[211..243] {
-        assert!(row.ends_with(" refused 4"), "{row}");
-    }
-    assert_eq!(rows[243], "total 200");
+    assert_eq!(rows[203], "calibration-1 25/25");
+    assert_eq!(rows[204], "calibration-2 not in HiRID");
+    assert!(rows[210].starts_with("orbit epoch "));
+    assert_eq!(rows[211], "total 200");
 }
 
 /// One line each whose calls are refused, and a negative position.
@@ -114,10 +147,10 @@ fn refused_groups() {
         changed(&[(11, 0x00), (12, 0x01)]),
         changed(&[(197, 0xEE)]),
     ];
-    let numbers = "set 100 reset 2391 count 100 ahead";
-    let date = "date 2005 1 1 0 0 0 0";
+    let numbers = "set 100 reset 2391 count 100 position 0";
+    let date = "date 2005-01-01 00:00:00.00";
     let segment = "segment 0 repeat 0";
-    let head = "mode 0 mirror 255";
+    let head = "mode full mirror 1-A";
     let expected = [
         "line 1 mode refused 5 mirror refused 5 set refused 5 date refused 5 \
          segment refused 5 blocks 5 5 5 5 5"
@@ -126,21 +159,45 @@ fn refused_groups() {
         format!("line 3 {head} {numbers} date refused 7 {segment} blocks 0 0 0 0 0"),
         format!("line 4 {head} {numbers} {date} segment refused 7 blocks 7 7 7 7 7"),
         format!(
-            "line 5 {head} set 100 reset 2391 count 1 behind {date} {segment} \
+            "line 5 {head} set 100 reset 2391 count 1 position -99 {date} {segment} \
              blocks 0 0 0 0 0"
         ),
         format!("line 6 {head} {numbers} {date} {segment} blocks 8 0 0 0 0"),
     ];
     let rows = rows(1, lines.into_iter());
     assert_eq!(rows[..6], expected);
-    // Only segment 0 is there; 10 is tested before 9.
-    for b in 1..=5 {
-        assert_eq!(rows[5 + b], format!("block {b} marks 1"));
+    // Only segment 0 is there, and of an unfinished block no entry is shown.
+    let end = [
+        "mapping 1/25",
+        "orbit 1/25",
+        "MANAM 1/25",
+        "calibration-1 1/25",
+        "calibration-2 1/25",
+        "total 6",
+    ];
+    assert_eq!(rows[6..], end);
+}
+
+/// A recording that stops inside a line, and one that stops between lines.
+#[test]
+fn an_unfinished_line() {
+    let wire = pattern::on_the_wire(1, &pattern::line(1, 0).unwrap()).unwrap();
+    // SYNC has 10,000 bits, 1,250 bytes.
+    for (bytes, bits) in [
+        (1_249, None),
+        (1_250, Some(0)),
+        (1_251, Some(8)),
+        (45_605, Some(354_840)),
+        (45_606, None),
+    ] {
+        let mut fields = Fields::new(1);
+        fields.feed(&wire[..bytes]).unwrap();
+        assert_eq!(fields.unfinished(), bits, "{bytes} bytes");
     }
-    assert_eq!(rows[11], "mapping 0 0 refused 9");
-    assert_eq!(rows[16], "mapping 25 0 refused 10");
-    assert_eq!(rows[17], "albedo 1 0 refused 9");
-    assert_eq!(rows[20], "albedo 1 64 refused 10");
+    assert_eq!(
+        second::listing::unfinished(8),
+        "an unfinished line, 8 of 354848 bits"
+    );
 }
 
 /// The rows do not depend on where the recording is cut.

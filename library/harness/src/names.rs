@@ -1,8 +1,9 @@
-//! The 40 calls by name.
+//! The 41 calls by name.
 
 /// The calls in the header's order.
 #[derive(Clone, Copy, Debug, PartialEq, Eq)]
 pub enum Name {
+    Version,
     Format,
     Stepped,
     Step,

@@ -1,4 +1,4 @@
-//! The 40 calls as the header declares them. `tests/rows.rs` holds this table
+//! The 41 calls as the header declares them. `tests/rows.rs` holds this table
 //! to the header's own text.
 
 pub use crate::names::Name;
@@ -6,7 +6,7 @@ pub use crate::shapes::REGISTER_LENT;
 use crate::shapes::*;
 
 /// How many calls there are.
-pub const CALLS: usize = 40;
+pub const CALLS: usize = 41;
 
 /// All refusals, in the order in which they are tested.
 pub const ORDER: [u8; 12] = [1, 12, 4, 10, 11, 2, 3, 5, 6, 7, 8, 9];
@@ -77,6 +77,7 @@ const fn row(
 /// The calls, each at the place of its [`Name`].
 #[rustfmt::skip] // a table: one row a call
 pub const ROWS: [Row; CALLS] = [
+    row(Name::Version, "version", &[], &[], VERSION, &[]),
     row(Name::Format, "format", FORMAT, &[], LENGTHS, &[1]),
     row(Name::Stepped, "stepped", REGISTER, &[], STEPPED, &[12]),
     row(Name::Step, "step", &[], &[REGISTER_LENT], STEPPED, &[12]),

@@ -58,6 +58,7 @@ pub const STRIP: Part = part("strip", false, true);
 pub const REGISTER_LENT: Part = part("register_", true, true);
 
 // Fields of the answers.
+pub const VERSION: Fields = &["version"];
 pub const ALONE: Fields = &["refused"];
 pub const COUNT: Fields = &["refused", "count"];
 pub const LENGTHS: Fields = &[

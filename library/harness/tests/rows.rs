@@ -7,13 +7,16 @@ use harness::rows::{Part, Row, ORDER, REGISTER_LENT, ROWS};
 
 const HEADER: &str = include_str!("../../hansobrik.h");
 
-/// The header in one line, from its first struct on, each comment's text
-/// between `/*` and `*/`.
+/// The header in one line, from its first struct up to the helpers that stand
+/// there whole, each comment's text between `/*` and `*/`.
 fn declarations() -> String {
     let start = HEADER
         .find("typedef struct")
         .expect("the header has structs");
-    let text = HEADER[start..].replace("\n *", "\n");
+    let end = HEADER
+        .find("/* ---- helpers")
+        .expect("the header has helpers");
+    let text = HEADER[start..end].replace("\n *", "\n");
     let words: Vec<&str> = text.split_whitespace().collect();
     words.join(" ")
 }
@@ -153,6 +156,7 @@ fn fields_are_those_of_the_answers() {
         let fields: Vec<&str> = match structs.get(&answer) {
             Some(fields) => fields.iter().map(|(_, what)| what.as_str()).collect(),
             None if answer == "uint8_t" => vec!["refused"],
+            None if row.text == "version" => vec!["version"],
             None => vec!["marks"],
         };
         assert_eq!(fields, row.fields, "{}", row.text);
@@ -166,8 +170,9 @@ fn fields_are_those_of_the_answers() {
     }
 }
 
-/// The comment of a call ends with its refusals: "1, 12, 2.", or "0, or 10,
-/// 11, 3." A comment is for all the calls up to the next one.
+/// The comment of a call ends with its refusals by name: "Refused: FORMAT,
+/// STATE.", or "Never refused." A comment is for all the calls up to the next
+/// one.
 #[test]
 fn refusals_are_those_of_the_comments() {
     let text = declarations();
@@ -177,27 +182,40 @@ fn refusals_are_those_of_the_comments() {
         let comment = before.rsplit_once("/*").expect("a comment").1;
         let comment = comment.split_once("*/").expect("it ends").0.trim();
         let last = comment.rsplit(". ").next().expect("a sentence");
-        let last = last.rsplit(": 0, or ").next().expect("the rest");
-        let mut refusals: Vec<u8> = last
-            .split(|c: char| !c.is_ascii_digit())
-            .filter_map(|number| number.parse().ok())
-            .filter(|&number| number != 0)
-            .collect();
-        if last.ends_with("and 7 of BCD.") && row.text != "bcd_field" {
-            refusals.retain(|&number| number != 7);
-        }
+        let refusals: Vec<u8> = match last.strip_prefix("Refused: ") {
+            Some(names) => names
+                .trim_end_matches('.')
+                .split(", ")
+                .map(number)
+                .collect(),
+            None => {
+                assert_eq!(last, "Never refused.", "{}: {comment}", row.text);
+                vec![]
+            }
+        };
         assert_eq!(refusals, row.refusals, "{}: {comment}", row.text);
     }
 }
 
-#[test]
-fn the_order_of_refusals_is_the_header_s() {
+/// The header's refusals: name without prefix, and number.
+fn refusals() -> Vec<(String, u8)> {
     let list = HEADER.split_once("enum {").expect("the first list").1;
     let list = bare(list.split_once("};").expect("it ends").0);
-    let numbers: Vec<u8> = list
-        .split(',')
-        .filter_map(|entry| entry.split_once('='))
-        .map(|(_, number)| number.trim().parse().expect("a number"))
-        .collect();
+    list.split(',')
+        .filter_map(|entry| entry.trim().strip_prefix("HANSOBRIK_REFUSED_"))
+        .map(|entry| entry.split_once(" = ").expect("name and number"))
+        .map(|(name, number)| (name.to_string(), number.parse().expect("a number")))
+        .collect()
+}
+
+fn number(name: &str) -> u8 {
+    let all = refusals();
+    let found = all.iter().find(|(known, _)| known == name);
+    found.unwrap_or_else(|| panic!("there is no {name}")).1
+}
+
+#[test]
+fn the_order_of_refusals_is_the_header_s() {
+    let numbers: Vec<u8> = refusals().iter().map(|(_, number)| *number).collect();
     assert_eq!(numbers, ORDER);
 }

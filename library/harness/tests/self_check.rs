@@ -156,7 +156,7 @@ fn what_was_left_out_is_said() {
     assert_eq!(bench.tally.missing(), ["date was never refused with 7"]);
     let nothing = bench.tally.since(&bench.tally.clone());
     assert_eq!(nothing.all(), 0);
-    assert_eq!(nothing.missing()[0], "format was never answered");
+    assert_eq!(nothing.missing()[0], "version was never answered");
 }
 
 /// The seed settles all calls.

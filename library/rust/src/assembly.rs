@@ -43,8 +43,9 @@ pub fn no_marks() -> u32 {
     unsafe { raw::hansobrik_no_marks() }
 }
 
-/// The segment of a block that a line carries, added to marks and block
-/// buffer. Refused with 1, 12, 4, 2, 5, 6, 7, 8.
+/// The segment of a block that a line carries, added to marks and block buffer.
+/// Refused with FORMAT, STATE, NUMBER, SHORT_INPUT, REMAINDER, ID, FIELD,
+/// SEGMENT.
 ///
 /// The marks that the library gives back are stored in any case: a refused
 /// call gives back those that were handed in.
@@ -78,7 +79,7 @@ pub fn add_segment(
 }
 
 /// A point of a finished mapping block, row and column 0 to 24. Refused with
-/// 1, 12, 10, 2, 9.
+/// FORMAT, STATE, RANGE, SHORT_INPUT, UNFINISHED.
 pub fn mapping(
     format: u8,
     marks: u32,
@@ -100,8 +101,8 @@ pub fn mapping(
     )
 }
 
-/// The albedo of a level, 0 to 63, of VIS 1 to 4. Refused with 1, 12, 4, 10,
-/// 2, 9.
+/// The albedo of a level, 0 to 63, of VIS 1 to 4. Refused with FORMAT, STATE,
+/// NUMBER, RANGE, SHORT_INPUT, UNFINISHED.
 pub fn albedo(format: u8, marks: u32, block: &[u8], channel: u8, level: u16) -> Result<R, Refusal> {
     // SAFETY: the pointer and the count are those of one slice.
     real(unsafe {
@@ -123,8 +124,8 @@ pub fn albedo_f64(
     })
 }
 
-/// The temperature of a level, 0 to 1,023, of IR 1 to 4. Refused with 1, 12,
-/// 4, 10, 2, 9.
+/// The temperature of a level, 0 to 1,023, of IR 1 to 4. Refused with FORMAT,
+/// STATE, NUMBER, RANGE, SHORT_INPUT, UNFINISHED.
 pub fn temperature(
     format: u8,
     marks: u32,
@@ -152,7 +153,8 @@ pub fn temperature_f64(
     })
 }
 
-/// The orbital elements of a finished orbit block. Refused with 1, 12, 2, 9.
+/// The orbital elements of a finished orbit block. Refused with FORMAT, STATE,
+/// SHORT_INPUT, UNFINISHED.
 pub fn elements(format: u8, marks: u32, block: &[u8]) -> Result<Elements, Refusal> {
     // SAFETY: the pointer and the count are those of one slice.
     let a = unsafe { raw::hansobrik_elements(format, marks, block.as_ptr(), block.len()) };

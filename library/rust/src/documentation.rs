@@ -52,7 +52,7 @@ pub struct SubCommutation {
     pub repeat: u8,
 }
 
-/// The scan mode, byte 3. Refused with 1, 2, 5, 6.
+/// The scan mode, byte 3. Refused with FORMAT, SHORT_INPUT, REMAINDER, ID.
 pub fn scan_mode(format: u8, line: &[u8]) -> Result<ScanMode, Refusal> {
     // SAFETY: the pointer and the count are those of one slice.
     let a = unsafe { raw::hansobrik_scan_mode(format, line.as_ptr(), line.len()) };
@@ -65,7 +65,7 @@ pub fn scan_mode(format: u8, line: &[u8]) -> Result<ScanMode, Refusal> {
     unless(a.refused, mode)
 }
 
-/// Scanner select, byte 67. Refused with 1, 2, 5, 6.
+/// Scanner select, byte 67. Refused with FORMAT, SHORT_INPUT, REMAINDER, ID.
 pub fn scanner_select(format: u8, line: &[u8]) -> Result<Mirror, Refusal> {
     // SAFETY: the pointer and the count are those of one slice.
     let a = unsafe { raw::hansobrik_scanner_select(format, line.as_ptr(), line.len()) };
@@ -79,8 +79,8 @@ pub fn scanner_select(format: u8, line: &[u8]) -> Result<Mirror, Refusal> {
     unless(a.refused, mirror)
 }
 
-/// Set line, reset line, scan count and line position. Refused with 1, 2, 5,
-/// 6, 7.
+/// Set line, reset line, scan count and line position. Refused with FORMAT,
+/// SHORT_INPUT, REMAINDER, ID, FIELD.
 pub fn line_numbers(format: u8, line: &[u8]) -> Result<LineNumbers, Refusal> {
     // SAFETY: the pointer and the count are those of one slice.
     let a = unsafe { raw::hansobrik_line_numbers(format, line.as_ptr(), line.len()) };
@@ -95,7 +95,7 @@ pub fn line_numbers(format: u8, line: &[u8]) -> Result<LineNumbers, Refusal> {
     )
 }
 
-/// Date and time. Refused with 1, 2, 5, 6, 7.
+/// Date and time. Refused with FORMAT, SHORT_INPUT, REMAINDER, ID, FIELD.
 pub fn date(format: u8, line: &[u8]) -> Result<Date, Refusal> {
     // SAFETY: the pointer and the count are those of one slice.
     let a = unsafe { raw::hansobrik_date(format, line.as_ptr(), line.len()) };
@@ -114,7 +114,7 @@ pub fn date(format: u8, line: &[u8]) -> Result<Date, Refusal> {
 }
 
 /// Which segment of every block the line carries, and its repeat. Refused with
-/// 1, 2, 5, 6, 7.
+/// FORMAT, SHORT_INPUT, REMAINDER, ID, FIELD.
 pub fn sub_commutation(format: u8, line: &[u8]) -> Result<SubCommutation, Refusal> {
     // SAFETY: the pointer and the count are those of one slice.
     let a = unsafe { raw::hansobrik_sub_commutation(format, line.as_ptr(), line.len()) };
@@ -128,25 +128,27 @@ pub fn sub_commutation(format: u8, line: &[u8]) -> Result<SubCommutation, Refusa
 }
 
 /// I*n at a place: a byte of the sector from 1 to 2,293, ID included. Refused
-/// with 1, 10, 2, 5, 6.
+/// with FORMAT, RANGE, SHORT_INPUT, REMAINDER, ID.
 pub fn integer_field(format: u8, line: &[u8], place: usize, n: usize) -> Result<u32, Refusal> {
     // SAFETY: the pointer and the count are those of one slice.
     integer(unsafe { raw::hansobrik_integer_field(format, line.as_ptr(), line.len(), place, n) })
 }
 
-/// BCD*n at a place. Refused with 1, 10, 2, 5, 6, 7.
+/// BCD*n at a place. Refused with FORMAT, RANGE, SHORT_INPUT, REMAINDER, ID,
+/// FIELD.
 pub fn bcd_field(format: u8, line: &[u8], place: usize, n: usize) -> Result<u64, Refusal> {
     // SAFETY: the pointer and the count are those of one slice.
     bcd(unsafe { raw::hansobrik_bcd_field(format, line.as_ptr(), line.len(), place, n) })
 }
 
-/// R*n.m at a place. Refused with 1, 10, 2, 5, 6.
+/// R*n.m at a place. Refused with FORMAT, RANGE, SHORT_INPUT, REMAINDER, ID.
 pub fn real_field(format: u8, line: &[u8], place: usize, n: usize, m: u8) -> Result<R, Refusal> {
     // SAFETY: the pointer and the count are those of one slice.
     real(unsafe { raw::hansobrik_real_field(format, line.as_ptr(), line.len(), place, n, m) })
 }
 
-/// R*n.m at a place in f64. Refused with 1, 10, 2, 5, 6.
+/// R*n.m at a place in f64. Refused with FORMAT, RANGE, SHORT_INPUT, REMAINDER,
+/// ID.
 pub fn f64_field(format: u8, line: &[u8], place: usize, n: usize, m: u8) -> Result<f64, Refusal> {
     // SAFETY: the pointer and the count are those of one slice.
     float(unsafe { raw::hansobrik_f64_field(format, line.as_ptr(), line.len(), place, n, m) })

@@ -1,4 +1,4 @@
-//! Formats, the scrambling register, SYNC.
+//! The version; formats, the scrambling register, SYNC.
 
 use crate::raw;
 use crate::refusal::{unless, Refusal};
@@ -32,7 +32,14 @@ fn step_of(answer: raw::StepAnswer) -> Result<Step, Refusal> {
     )
 }
 
-/// The lengths of a format. Refused with 1.
+/// The version of the archive as one number: ten thousand times its first part,
+/// a hundred times its second, its third. It is this crate's own.
+pub fn version() -> u32 {
+    // SAFETY: it takes nothing.
+    unsafe { raw::hansobrik_version() }
+}
+
+/// The lengths of a format. Refused with FORMAT.
 pub fn format(format: u8) -> Result<Format, Refusal> {
     // SAFETY: numbers only.
     let a = unsafe { raw::hansobrik_format(format) };
@@ -48,7 +55,7 @@ pub fn format(format: u8) -> Result<Format, Refusal> {
     )
 }
 
-/// One step of the scrambling register, by value. Refused with 12 for a
+/// One step of the scrambling register, by value. Refused with STATE for a
 /// register over fifteen bits.
 pub fn stepped(register: u16) -> Result<Step, Refusal> {
     // SAFETY: numbers only.
@@ -62,7 +69,8 @@ pub fn step(register: &mut u16) -> Result<Step, Refusal> {
     step_of(unsafe { raw::hansobrik_step(register) })
 }
 
-/// SYNC at the front of `out`; how many bytes. Refused with 1, 3.
+/// SYNC at the front of `out`; how many bytes. Refused with FORMAT,
+/// SHORT_OUTPUT.
 pub fn put_sync(format: u8, out: &mut [u8]) -> Result<usize, Refusal> {
     // SAFETY: the pointer and the count are those of one slice.
     let a = unsafe { raw::hansobrik_put_sync(format, out.as_mut_ptr(), out.len()) };

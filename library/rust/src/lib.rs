@@ -2,15 +2,19 @@
 //!
 //! Safe Rust calls of the proved library, one for each call of `hansobrik.h`,
 //! named as there without the prefix. A call that can refuse gives a `Result`;
-//! a refused call changes no buffer, no state and no marks.
+//! a refused call changes no buffer, no state and no marks. Its refusals are
+//! named, as constants of [`Refusal`], in the order in which they are tested.
 //!
-//! Trusted here are the declarations of [`raw`] and that each safe call hands
-//! on the pointer and the count of its own slices.
+//! Every call is safe from any thread on buffers of its own: the library has
+//! no memory of its own and keeps nothing between calls. The crate is `no_std`.
+//!
+//! Trusted here is that each safe call hands on the pointer and the count of
+//! its own slices.
 //!
 //! A line made, written for the wire, and read again in pieces:
 //!
 //! ```
-//! use hansobrik::{fresh, put_data, read, write_line, LINE_BYTES, S_VISSR, WIRE_BYTES_1};
+//! use hansobrik::{put_data, write_line, Reader, LINE_BYTES, S_VISSR, WIRE_BYTES_1};
 //!
 //! # fn main() -> Result<(), hansobrik::Refusal> {
 //! let mut sent = [0; LINE_BYTES];
@@ -19,23 +23,20 @@
 //! write_line(S_VISSR, &sent, &mut wire)?;
 //!
 //! let mut line = [0; LINE_BYTES];
-//! let mut state = fresh();
+//! let mut reader = Reader::fresh(S_VISSR);
 //! let mut lines = 0;
 //! for piece in wire.chunks(1000) {
-//!     let mut rest = piece;
-//!     while !rest.is_empty() {
-//!         let answer = read(S_VISSR, &mut state, rest, &mut line)?;
-//!         if answer.complete {
-//!             lines += 1;
-//!             assert!(line == sent);
-//!         }
-//!         rest = &rest[answer.taken..];
-//!     }
+//!     reader.take(piece, &mut line, |line| {
+//!         lines += 1;
+//!         assert!(line == sent);
+//!     })?;
 //! }
 //! assert_eq!(lines, 1);
 //! # Ok(())
 //! # }
 //! ```
+
+#![no_std]
 
 pub mod raw;
 

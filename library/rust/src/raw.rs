@@ -1,18 +1,23 @@
 //! The C calls as they are: the records and declarations of `hansobrik.h`.
 //!
-//! These declarations are trusted. No compiler compares them with the header
-//! or with the archive; `tests/boundary.rs` compares sizes and offsets.
+//! No compiler compares these declarations with the header or with the archive.
+//! `.ci/boundary` holds them to the sources that the archive is made from;
+//! `tests/layout.rs` tests sizes and offsets.
 //!
 //! A buffer is a pointer and a count of its elements. Buffers lent to one call
 //! must not overlap; the safe calls of this crate take slices, which cannot.
 
 /// What a reader keeps between calls; 24 bytes without a gap. Every field 0 is
 /// a fresh one.
+///
+/// A caller may look at `in_line` and `position`: where `in_line` is 1 at the
+/// end of a recording, it stops inside a line, of whose bits it has the first
+/// `position`. The other fields are the reader's own.
 #[repr(C)]
 #[derive(Clone, Copy, Debug, Default, PartialEq, Eq)]
 pub struct State {
     /// In a line: the next line bit.
-    pub position: usize,
+    pub position: u64,
     /// Between lines: the last bits since the search began, the last one
     /// lowest.
     pub search: u64,
@@ -177,6 +182,11 @@ pub struct OrbitAnswer {
     pub node: f64,
     pub perigee: f64,
     pub anomaly: f64,
+}
+
+// The version of the archive.
+extern "C" {
+    pub fn hansobrik_version() -> u32;
 }
 
 // Formats, scrambling, SYNC.

@@ -22,7 +22,7 @@ pub fn fresh() -> State {
 
 /// Reads until a line is complete or the piece is used up. A complete line
 /// stands in the buffer until a later call finds the next tail. Refused with
-/// 1, 12, 2; `line` must have 44,356 bytes or more.
+/// FORMAT, STATE, SHORT_INPUT; `line` must have 44,356 bytes or more.
 ///
 /// The record that the library gives back is stored in any case: a refused
 /// call gives back the one that was handed in.
@@ -48,8 +48,49 @@ pub fn read(format: u8, state: &mut State, piece: &[u8], line: &mut [u8]) -> Res
     )
 }
 
+/// A reader that hands its record on by itself, and takes every piece whole, so
+/// that neither record nor rest can be forgotten.
+///
+/// Both fields may be stored and put back; [`State`] says which of its own may
+/// be looked at.
+#[derive(Clone, Copy, Debug, PartialEq, Eq)]
+pub struct Reader {
+    pub format: u8,
+    pub state: State,
+}
+
+impl Reader {
+    /// A reader before a recording's first bit.
+    pub fn fresh(format: u8) -> Reader {
+        Reader {
+            format,
+            state: fresh(),
+        }
+    }
+
+    /// Reads the whole piece, and hands each line that becomes complete to
+    /// `each`, out of the buffer `line`. Refused as [`read`] is; no byte of the
+    /// piece has a part in that, so that of a refused piece nothing was taken.
+    pub fn take(
+        &mut self,
+        piece: &[u8],
+        line: &mut [u8],
+        mut each: impl FnMut(&[u8]),
+    ) -> Result<(), Refusal> {
+        let mut rest = piece;
+        loop {
+            let answer = read(self.format, &mut self.state, rest, line)?;
+            rest = &rest[answer.taken..];
+            if !answer.complete {
+                return Ok(());
+            }
+            each(line);
+        }
+    }
+}
+
 /// One plain line on the wire at the front of `out`; how many bytes. Refused
-/// with 1, 2, 3.
+/// with FORMAT, SHORT_INPUT, SHORT_OUTPUT.
 pub fn write_line(format: u8, line: &[u8], out: &mut [u8]) -> Result<usize, Refusal> {
     // SAFETY: pointers and counts are those of two slices that do not overlap.
     let a = unsafe {

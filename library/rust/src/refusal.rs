@@ -1,6 +1,6 @@
 //! Why a call was refused.
 
-use std::fmt;
+use core::fmt;
 
 /// The number of a refusal, one of the twelve below.
 #[derive(Clone, Copy, Debug, PartialEq, Eq, Hash)]
@@ -21,7 +21,7 @@ impl Refusal {
     pub const SEGMENT: Refusal = Refusal(8);
     pub const UNFINISHED: Refusal = Refusal(9);
 
-    /// What the header says of the number.
+    /// What the header's `hansobrik_refusal_words` says of the number.
     pub fn words(self) -> &'static str {
         match self {
             Refusal::FORMAT => "the format is neither 1 nor 2",
@@ -57,7 +57,7 @@ impl fmt::Display for Refusal {
     }
 }
 
-impl std::error::Error for Refusal {}
+impl core::error::Error for Refusal {}
 
 /// The result of a call whose answer says `refused`: the value where that is 0.
 pub(crate) fn unless<T>(refused: u8, value: T) -> Result<T, Refusal> {

@@ -3,7 +3,8 @@
 use crate::raw;
 use crate::refusal::{unless, Refusal};
 
-/// Whether a sector is accepted. Refused with 1, 4, 2, 5, 6.
+/// Whether a sector is accepted. Refused with FORMAT, NUMBER, SHORT_INPUT,
+/// REMAINDER, ID.
 pub fn accepted(format: u8, line: &[u8], sector: u8) -> Result<(), Refusal> {
     // SAFETY: the pointer and the count are those of one slice.
     let a = unsafe { raw::hansobrik_accepted(format, line.as_ptr(), line.len(), sector) };
@@ -11,22 +12,24 @@ pub fn accepted(format: u8, line: &[u8], sector: u8) -> Result<(), Refusal> {
 }
 
 /// What [`accepted`] says of each of the twelve sectors, each divided once.
-/// Refused with 1, 2; of each sector that is not accepted its refusal, 5 or 6,
-/// is given.
+/// Refused with FORMAT, SHORT_INPUT; of each sector that is not accepted its
+/// refusal, REMAINDER or ID, is given.
 pub fn answers(format: u8, line: &[u8]) -> Result<[Result<(), Refusal>; 12], Refusal> {
     // SAFETY: the pointer and the count are those of one slice.
     let a = unsafe { raw::hansobrik_answers(format, line.as_ptr(), line.len()) };
     unless(a.refused, a.answers.map(|number| unless(number, ())))
 }
 
-/// The filler bits of a sector that are set. Refused with 1, 4, 2.
+/// The filler bits of a sector that are set. Refused with FORMAT, NUMBER,
+/// SHORT_INPUT.
 pub fn filler(format: u8, line: &[u8], sector: u8) -> Result<usize, Refusal> {
     // SAFETY: the pointer and the count are those of one slice.
     let a = unsafe { raw::hansobrik_filler(format, line.as_ptr(), line.len(), sector) };
     unless(a.refused, a.count)
 }
 
-/// The data of a sector. Refused with 1, 4, 2, 3, 5, 6.
+/// The data of a sector. Refused with FORMAT, NUMBER, SHORT_INPUT,
+/// SHORT_OUTPUT, REMAINDER, ID.
 pub fn data(format: u8, line: &[u8], sector: u8, out: &mut [u8]) -> Result<(), Refusal> {
     // SAFETY: pointers and counts are those of two slices that do not overlap.
     let a = unsafe {
@@ -42,7 +45,8 @@ pub fn data(format: u8, line: &[u8], sector: u8, out: &mut [u8]) -> Result<(), R
     unless(a, ())
 }
 
-/// The pixels of a sector from 2 to 11. Refused with 1, 4, 2, 3, 5, 6.
+/// The pixels of a sector from 2 to 11. Refused with FORMAT, NUMBER,
+/// SHORT_INPUT, SHORT_OUTPUT, REMAINDER, ID.
 pub fn pixels(format: u8, line: &[u8], sector: u8, out: &mut [u8]) -> Result<(), Refusal> {
     // SAFETY: pointers and counts are those of two slices that do not overlap.
     let a = unsafe {
@@ -58,7 +62,8 @@ pub fn pixels(format: u8, line: &[u8], sector: u8, out: &mut [u8]) -> Result<(),
     unless(a, ())
 }
 
-/// The pixels of IR4, sector 12. Refused with 1, 4, 2, 3, 5, 6.
+/// The pixels of IR4, sector 12. Refused with FORMAT, NUMBER, SHORT_INPUT,
+/// SHORT_OUTPUT, REMAINDER, ID.
 pub fn pixels_wide(format: u8, line: &[u8], sector: u8, out: &mut [u16]) -> Result<(), Refusal> {
     // SAFETY: pointers and counts are those of two slices that do not overlap.
     let a = unsafe {
@@ -74,8 +79,9 @@ pub fn pixels_wide(format: u8, line: &[u8], sector: u8, out: &mut [u16]) -> Resu
     unless(a, ())
 }
 
-/// The ten-bit pixels of IR1, IR2 or IR3, channel 1 to 3. Refused with 1, 4,
-/// 2, 3, then 5 and 6 of the upper sector and of the lower.
+/// The ten-bit pixels of IR1, IR2 or IR3, channel 1 to 3. Refused with FORMAT,
+/// NUMBER, SHORT_INPUT, SHORT_OUTPUT, then REMAINDER and ID of the upper sector
+/// and of the lower.
 pub fn joined(format: u8, line: &[u8], channel: u8, out: &mut [u16]) -> Result<(), Refusal> {
     // SAFETY: pointers and counts are those of two slices that do not overlap.
     let a = unsafe {
@@ -92,8 +98,8 @@ pub fn joined(format: u8, line: &[u8], channel: u8, out: &mut [u16]) -> Result<(
 }
 
 /// VIS1 to VIS4 in one strip of 36,656 bytes, each in its own part. Refused
-/// with 1, 2, 3; of each sector that is not accepted its refusal, 5 or 6, is
-/// given, and its part stays.
+/// with FORMAT, SHORT_INPUT, SHORT_OUTPUT; of each sector that is not accepted
+/// its refusal, REMAINDER or ID, is given, and its part stays.
 pub fn strip(
     format: u8,
     line: &[u8],
@@ -113,7 +119,7 @@ pub fn strip(
 }
 
 /// Data into a sector, with ID, check word and zero filler; the other sectors
-/// keep their bits. Refused with 1, 4, 2.
+/// keep their bits. Refused with FORMAT, NUMBER, SHORT_INPUT.
 pub fn put_data(format: u8, line: &mut [u8], sector: u8, bytes: &[u8]) -> Result<(), Refusal> {
     // SAFETY: pointers and counts are those of two slices that do not overlap.
     let a = unsafe {
@@ -129,7 +135,8 @@ pub fn put_data(format: u8, line: &mut [u8], sector: u8, bytes: &[u8]) -> Result
     unless(a, ())
 }
 
-/// Pixels into a sector from 2 to 11. Refused with 1, 4, 10, 2.
+/// Pixels into a sector from 2 to 11. Refused with FORMAT, NUMBER, RANGE,
+/// SHORT_INPUT.
 pub fn put_pixels(format: u8, line: &mut [u8], sector: u8, pixels: &[u8]) -> Result<(), Refusal> {
     // SAFETY: pointers and counts are those of two slices that do not overlap.
     let a = unsafe {
@@ -145,7 +152,7 @@ pub fn put_pixels(format: u8, line: &mut [u8], sector: u8, pixels: &[u8]) -> Res
     unless(a, ())
 }
 
-/// Pixels into IR4, sector 12. Refused with 1, 4, 10, 2.
+/// Pixels into IR4, sector 12. Refused with FORMAT, NUMBER, RANGE, SHORT_INPUT.
 pub fn put_pixels_wide(
     format: u8,
     line: &mut [u8],

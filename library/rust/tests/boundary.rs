@@ -65,6 +65,75 @@ fn a_line_comes_back_byte_by_byte() {
     }
 }
 
+/// Three lines that differ, and what they are on the wire.
+fn recording(format: u8) -> (Vec<Vec<u8>>, Vec<u8>) {
+    let sent: Vec<Vec<u8>> = (1..=3)
+        .map(|i| line_with(format, &[i; DATA_BYTES_8]))
+        .collect();
+    let mut wire = Vec::new();
+    for line in &sent {
+        let mut out = vec![0; WIRE_BYTES_2];
+        let count = write_line(format, line, &mut out).unwrap();
+        wire.extend_from_slice(&out[..count]);
+    }
+    (sent, wire)
+}
+
+#[test]
+fn a_reader_keeps_its_record_in_every_cut() {
+    for format in [S_VISSR, HIRID] {
+        let (sent, wire) = recording(format);
+        for length in [1, 7, 4_096, WIRE_BYTES_1 - 1, wire.len()] {
+            let mut reader = Reader::fresh(format);
+            let mut line = vec![0; LINE_BYTES];
+            let mut lines = Vec::new();
+            for piece in wire.chunks(length) {
+                let each = |line: &[u8]| lines.push(line.to_vec());
+                reader.take(piece, &mut line, each).unwrap();
+            }
+            assert!(lines == sent, "in pieces of {length}");
+            assert_eq!(reader.state.in_line, 0);
+        }
+        // one that stops inside the second line, 1,000 bytes behind its SYNC
+        let lengths = hansobrik::format(format).unwrap();
+        let mut reader = Reader::fresh(format);
+        let end = lengths.bytes + lengths.sync_bits / 8 + 1_000;
+        let mut line = vec![0; LINE_BYTES];
+        reader.take(&wire[..end], &mut line, |_| ()).unwrap();
+        assert_eq!((reader.state.in_line, reader.state.position), (1, 8_000));
+    }
+}
+
+#[test]
+fn a_refused_piece_can_be_taken_again() {
+    let (sent, wire) = recording(S_VISSR);
+    let mut reader = Reader::fresh(S_VISSR);
+    let never = |_: &[u8]| panic!("a refused piece has no line");
+    let mut short = vec![0; LINE_BYTES - 1];
+    let refused = reader.take(&wire, &mut short, never);
+    assert_eq!(refused, Err(Refusal::SHORT_INPUT));
+    assert_eq!(reader, Reader::fresh(S_VISSR));
+    let mut line = vec![0; LINE_BYTES];
+    let mut lines = 0;
+    reader.take(&wire, &mut line, |_| lines += 1).unwrap();
+    assert_eq!(lines, sent.len());
+    let refused = Reader::fresh(3).take(&wire, &mut line, never);
+    assert_eq!(refused, Err(Refusal::FORMAT));
+}
+
+/// The crate and the archive are of one version.
+#[test]
+fn the_archive_is_of_the_crate_s_version() {
+    let number = version();
+    let text = format!(
+        "{}.{}.{}",
+        number / 10_000,
+        number / 100 % 100,
+        number % 100
+    );
+    assert_eq!(text, env!("CARGO_PKG_VERSION"));
+}
+
 #[test]
 fn values_come_back() {
     let mut line = line_of_zeros(S_VISSR);

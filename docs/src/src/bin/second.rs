@@ -48,6 +48,13 @@ fn print(rows: impl IntoIterator<Item = String>) -> Outcome {
     Ok(())
 }
 
+/// Says on standard error that the recording stops inside a line.
+fn tell(unfinished: Option<usize>) {
+    if let Some(bits) = unfinished {
+        eprintln!("{}", second::listing::unfinished(bits));
+    }
+}
+
 /// Hands the recording over in pieces, and writes the rows that each gives.
 fn follow(mut feed: impl FnMut(&[u8]) -> Result<Vec<String>, refusal::Refusal>) -> Outcome {
     let mut recording = io::stdin().lock();
@@ -65,6 +72,7 @@ fn listing(format: usize) -> Outcome {
     second::format::format(format).map_err(refused)?;
     let mut listing = Listing::new(format);
     follow(|piece| listing.feed(piece))?;
+    tell(listing.unfinished());
     print([listing.total()])
 }
 
@@ -72,6 +80,7 @@ fn fields(format: usize) -> Outcome {
     second::format::format(format).map_err(refused)?;
     let mut fields = Fields::new(format);
     follow(|piece| fields.feed(piece))?;
+    tell(fields.unfinished());
     print(fields.end())
 }
 

@@ -5,7 +5,7 @@ use hansobrik::raw::*;
 /// The reader's record out of its fields.
 pub fn state(n: &[u64]) -> State {
     State {
-        position: n[0] as usize,
+        position: n[0],
         search: n[1],
         register: n[2] as u16,
         in_line: n[3] as u8,
@@ -20,7 +20,7 @@ pub fn state(n: &[u64]) -> State {
 /// The fields of the reader's record.
 pub fn record(s: State) -> Vec<u64> {
     vec![
-        s.position as u64,
+        s.position,
         s.search,
         s.register.into(),
         s.in_line.into(),

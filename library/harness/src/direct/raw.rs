@@ -43,6 +43,7 @@ fn made(call: &Call, [one, two]: &[Guarded; 2]) -> Vec<u64> {
     // buffers, of the kinds that the call's row names.
     unsafe {
         match call.name {
+            Name::Version => vec![hansobrik_version().into()],
             Name::Format => lengths(hansobrik_format(b0)),
             Name::Stepped => step(hansobrik_stepped(n[0] as u16)),
             Name::Step => step(hansobrik_step(one.words())),

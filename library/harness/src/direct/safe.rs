@@ -16,7 +16,8 @@ pub fn through_safe(call: &Call) -> Outcome {
     let mut lent = call.lent.clone();
     let n = call.numbers.as_slice();
     let numbers = match call.name {
-        // these two cannot be refused
+        // these three cannot be refused
+        Name::Version => vec![safe::version().into()],
         Name::Fresh => record(safe::fresh()),
         Name::NoMarks => vec![safe::no_marks().into()],
         // and these two change what the caller keeps

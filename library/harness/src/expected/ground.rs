@@ -1,4 +1,4 @@
-//! Formats, the scrambling register, SYNC.
+//! The version; formats, the scrambling register, SYNC.
 
 use second::bits;
 use second::format::{format as format_of, INFORMATION_BITS};
@@ -7,6 +7,19 @@ use second::scramble;
 
 use super::Answer;
 use crate::call::Lent;
+
+const HEADER: &str = include_str!("../../../hansobrik.h");
+
+/// The header's version: the second decoder has none.
+pub fn version() -> Vec<u64> {
+    let parts = ["MAJOR", "MINOR", "PATCH"].map(|part| {
+        let define = format!("#define HANSOBRIK_VERSION_{part} ");
+        let (_, rest) = HEADER.split_once(&define).expect("the header has it");
+        let number = rest.lines().next().expect("a line");
+        number.trim().parse::<u64>().expect("a number")
+    });
+    vec![parts[0] * 10_000 + parts[1] * 100 + parts[2]]
+}
 
 pub fn format(n: &[u64]) -> Answer {
     let format = format_of(n[0] as usize)?;

@@ -21,7 +21,8 @@ type Answer = Result<Vec<u64>, Refusal>;
 pub fn expected(call: &Call) -> Outcome {
     let mut lent = call.lent.clone();
     let numbers = match call.name {
-        // these two have no `refused`
+        // these three have no `refused`
+        Name::Version => ground::version(),
         Name::Fresh => recording::fresh(),
         Name::NoMarks => vec![0],
         _ => match answer(call, &mut lent) {
@@ -77,7 +78,9 @@ fn answer(call: &Call, lent: &mut [Lent]) -> Answer {
         Name::Temperature => assembly::temperature(n, lent),
         Name::TemperatureF64 => assembly::temperature_f64(n, lent),
         Name::Elements => assembly::elements(n, lent),
-        Name::Fresh | Name::NoMarks => unreachable!("they cannot be refused"),
+        Name::Version | Name::Fresh | Name::NoMarks => {
+            unreachable!("they cannot be refused")
+        }
     }
 }
 

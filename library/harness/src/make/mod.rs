@@ -82,7 +82,9 @@ impl Maker {
             Name::Stepped => self.stepped(faults),
             Name::Step => self.step(faults),
             Name::PutSync => self.put_sync(faults),
-            Name::Fresh | Name::NoMarks => Asked::planned(Call::new(name, &[], vec![]), faults),
+            Name::Version | Name::Fresh | Name::NoMarks => {
+                Asked::planned(Call::new(name, &[], vec![]), faults)
+            }
             Name::Read => self.read(faults),
             Name::WriteLine => self.write_line(faults),
             Name::Accepted => self.accepted(faults),
@@ -121,7 +123,7 @@ impl Maker {
 /// takes milliseconds for whole lines, so these calls are the rarer ones.
 fn weight(name: Name) -> usize {
     match name {
-        Name::Fresh | Name::NoMarks => 1,
+        Name::Version | Name::Fresh | Name::NoMarks => 1,
         Name::WriteLine | Name::Strip | Name::Answers => 4,
         Name::Joined | Name::PutSync | Name::Format => 10,
         Name::PutData | Name::PutPixels | Name::PutPixelsWide => 12,

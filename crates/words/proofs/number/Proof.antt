@@ -1,9 +1,9 @@
--- `signal::number` is safe and ends. Assumes nothing.
+-- `words::number` is safe and ends. Assumes nothing.
 use Prim.Native.Nat.{_-_, _≤_}
 use borrow.Author.Needs.{needs}
 use lib.ListN.{length}
-use Rattle.signal.proofs.number.Statement.{statement}
-use Rattle.signal.proofs.number.Tie as tie
+use Rattle.words.proofs.number.Statement.{statement}
+use Rattle.words.proofs.number.Tie as tie
 
 abbrev Inv-loop : tie.InvT-loop
 Inv-loop text v₀ i₀ v i = (i ≤ length text)

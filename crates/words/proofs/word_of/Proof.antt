@@ -1,0 +1,56 @@
+-- `words::word_of` meets its contract. Assumes nothing.
+use mathlib.Core.Path.{_≡_, refl, sym, _∙_}
+use borrow.Author.Needs.{needs}
+use Rattle.words.proofs.word_of.Statement.{statement}
+use Rattle.words.proofs.word_of.Tie as tie
+
+slice-aggregate-is : tie.Need-slice-aggregate-is
+slice-aggregate-is c = search needs
+
+is-requires : tie.Need-is-requires
+is-requires c κs = search needs
+
+returns : tie.Need-returns
+returns c = rw (sym (c .before .is .ensures) ∙ c .if1 .taken) refl
+
+slice-aggregate-is-2 : tie.Need-slice-aggregate-is-2
+slice-aggregate-is-2 c = search needs
+
+is-requires-2 : tie.Need-is-requires-2
+is-requires-2 c κs = search needs
+
+returns-2 : tie.Need-returns-2
+returns-2 c =
+    let first = c .before .before .before in
+    rw (sym (first .before .is .ensures) ∙ first .if1 .left) (rw (sym (c .before .is2 .ensures) ∙ c .if2 .taken) refl)
+
+is-option-requires : tie.Need-is-option-requires
+is-option-requires c κs = search needs
+
+returns-3 : tie.Need-returns-3
+returns-3 c =
+    let second = c .before .before in
+    let first = second .before .before .before in
+    rw (sym (first .before .is .ensures) ∙ first .if1 .left)
+    (rw (sym (second .before .is2 .ensures) ∙ second .if2 .left) (rw (sym (c .before .is-option .ensures) ∙ c .if3 .taken) refl))
+
+returns-4 : tie.Need-returns-4
+returns-4 c =
+    let second = c .before .before in
+    let first = second .before .before .before in
+    rw (sym (first .before .is .ensures) ∙ first .if1 .left)
+    (rw (sym (second .before .is2 .ensures) ∙ second .if2 .left) (rw (sym (c .before .is-option .ensures) ∙ c .if3 .left) refl))
+
+pub word-of-spec : {M : Type 1} → statement M
+word-of-spec =
+    tie.close
+    (tie.spec
+    slice-aggregate-is
+    is-requires
+    returns
+    slice-aggregate-is-2
+    is-requires-2
+    returns-2
+    is-option-requires
+    returns-3
+    returns-4)

@@ -1,0 +1,603 @@
+//! The edits, each with what the check must say of it.
+
+use super::{compilers, texts, Edit};
+use crate::calls::ORDERS;
+use crate::header::FILE as HEADER;
+use crate::numbers::{NAMED, NUMBERS, ORDER, TABLE};
+use crate::rust::{DOCUMENTATION, RAW, REFUSAL, SIZES};
+use crate::sizes::{BLOCK, FORMATS, LAYOUT};
+use crate::version::MANIFEST;
+
+const GROUND: &str = "crates/rack_ground/src/lib.rt";
+const RECORDING: &str = "crates/rack_recording/src/lib.rt";
+const SECTOR: &str = "crates/rack_sector/src/lib.rt";
+const NUMBER: &str = "crates/rack_number/src/lib.rt";
+const BLOCKS: &str = "crates/rack_blocks/src/lib.rt";
+
+pub const EDITS: &[Edit] = &[
+    // structs of the header
+    texts(
+        &[(HEADER, "uint32_t marks; /*", "uint16_t marks; /*")],
+        &[
+            "hansobrik_add_answer: field 4",
+            "uint16_t marks",
+            "uint32_t marks",
+            "rack_blocks",
+        ],
+    ),
+    texts(
+        &[(
+            HEADER,
+            "uint8_t hour; uint8_t minute;",
+            "uint8_t minute; uint8_t hour;",
+        )],
+        &[
+            "hansobrik_date_answer: field 4",
+            "uint8_t minute",
+            "uint8_t hour",
+        ],
+    ),
+    texts(
+        &[(HEADER, "uint8_t month;", "uint8_t moon;")],
+        &["hansobrik_date_answer: field 2", "moon", "month"],
+    ),
+    texts(
+        &[(HEADER, "uint8_t repeat;", "")],
+        &["hansobrik_segment_answer has 2 fields", "3 by the source"],
+    ),
+    texts(
+        &[(HEADER, "uint8_t answers[12];", "uint8_t answers[11];")],
+        &[
+            "hansobrik_twelve_answer: field 2",
+            "answers[11]",
+            "answers[12]",
+        ],
+    ),
+    texts(
+        &[(HEADER, "uint8_t vis[4];", "uint8_t vis[5];")],
+        &["hansobrik_strip_answer: field 2", "vis[5]", "vis[4]"],
+    ),
+    texts(
+        &[(HEADER, "uint64_t position;", "size_t position;")],
+        &[
+            "hansobrik_state: field 1",
+            "size_t position",
+            "uint64_t position",
+        ],
+    ),
+    texts(
+        &[(
+            HEADER,
+            "} hansobrik_grid_answer;",
+            "} hansobrik_point_answer;",
+        )],
+        &["hansobrik_grid_answer is missing", "rack_blocks"],
+    ),
+    texts(
+        &[(
+            HEADER,
+            "typedef struct",
+            "typedef struct { uint8_t more; } hansobrik_more; typedef struct",
+        )],
+        &["hansobrik_more: the source has no such struct"],
+    ),
+    // functions of the header
+    texts(
+        &[(
+            HEADER,
+            "hansobrik_accepted(uint8_t format, const",
+            "hansobrik_accepted(const",
+        )],
+        &["hansobrik_accepted has 3 parameters", "4 by the source"],
+    ),
+    texts(
+        &[(
+            HEADER,
+            "hansobrik_answers(uint8_t format, const uint8_t *line",
+            "hansobrik_answers(uint8_t format, uint8_t *line",
+        )],
+        &[
+            "hansobrik_answers: parameter 2",
+            "`uint8_t *line`",
+            "`const uint8_t *line`",
+        ],
+    ),
+    texts(
+        &[(
+            HEADER,
+            "uint16_t row, uint16_t column",
+            "uint16_t column, uint16_t row",
+        )],
+        &["hansobrik_mapping: parameter 5", "column", "row"],
+    ),
+    texts(
+        &[(
+            HEADER,
+            "hansobrik_stepped(uint16_t",
+            "hansobrik_stepped(uint32_t",
+        )],
+        &[
+            "hansobrik_stepped: parameter 1",
+            "uint32_t register_",
+            "uint16_t register_",
+        ],
+    ),
+    texts(
+        &[(
+            HEADER,
+            "hansobrik_step(uint16_t *register_)",
+            "hansobrik_step(uint16_t register_)",
+        )],
+        &[
+            "hansobrik_step: parameter 1",
+            "uint16_t register_",
+            "uint16_t *register_",
+        ],
+    ),
+    texts(
+        &[(
+            HEADER,
+            "uint8_t hansobrik_data(",
+            "uint16_t hansobrik_data(",
+        )],
+        &["hansobrik_data gives uint16_t", "uint8_t by the source"],
+    ),
+    texts(
+        &[(HEADER, "hansobrik_state hansobrik_fresh(void);", "")],
+        &["hansobrik_fresh is missing", RECORDING],
+    ),
+    texts(
+        &[(HEADER, "hansobrik_fresh(void)", "hansobrik_fresh()")],
+        &["hansobrik_fresh", "(void)"],
+    ),
+    texts(
+        &[(
+            HEADER,
+            "uint32_t hansobrik_no_marks(void);",
+            "uint32_t hansobrik_no_marks(void); uint32_t hansobrik_all_marks(void);",
+        )],
+        &["hansobrik_all_marks: the source has no such function"],
+    ),
+    texts(
+        &[(
+            HEADER,
+            "uint32_t hansobrik_no_marks(void);",
+            "static inline uint32_t hansobrik_no_marks(void) { return 0; }",
+        )],
+        &["hansobrik_no_marks has a body"],
+    ),
+    // structs and functions of Rust
+    texts(
+        &[(RAW, "pub magnitude: u64,", "pub magnitude: u32,")],
+        &["RealAnswer: field 4", "magnitude: u32", "magnitude: u64"],
+    ),
+    texts(
+        &[(
+            RAW,
+            "pub set_line: u16, pub reset_line: u16,",
+            "pub reset_line: u16, pub set_line: u16,",
+        )],
+        &["LinesAnswer: field 2", "reset_line", "set_line"],
+    ),
+    texts(
+        &[(
+            RAW,
+            "#[repr(C)] #[derive(Clone, Copy, Debug, Default, PartialEq, Eq)] pub struct Count",
+            "pub struct Count",
+        )],
+        &["CountAnswer is not #[repr(C)]"],
+    ),
+    texts(
+        &[(RAW, "place: usize, n: usize,", "n: usize, place: usize,")],
+        &[
+            "hansobrik_integer_field: parameter 4",
+            "n: usize",
+            "place: usize",
+        ],
+    ),
+    texts(
+        &[(RAW, "piece: *const u8", "piece: *mut u8")],
+        &["hansobrik_read: parameter 3", "*mut u8", "*const u8"],
+    ),
+    texts(
+        &[(
+            RAW,
+            "pub fn hansobrik_format(format: u8) -> FormatAnswer;",
+            "",
+        )],
+        &["hansobrik_format is missing", GROUND],
+    ),
+    texts(
+        &[(
+            RAW,
+            "pub fn hansobrik_no_marks() -> u32;",
+            "pub fn hansobrik_no_marks() -> u32; pub fn hansobrik_all_marks() -> u32;",
+        )],
+        &["hansobrik_all_marks: the source has no such function"],
+    ),
+    texts(
+        &[(
+            RAW,
+            "hansobrik_no_marks() -> u32",
+            "hansobrik_no_marks() -> u64",
+        )],
+        &["hansobrik_no_marks gives u64", "u32 by the source"],
+    ),
+    // the Rattle text
+    texts(
+        &[(NUMBER, "pub count: usize,", "pub count: u32,")],
+        &[
+            "hansobrik_count_answer: field 2",
+            "size_t count",
+            "uint32_t count",
+            NUMBER,
+        ],
+    ),
+    texts(
+        &[(NUMBER, "pub count: usize,", "pub count: u32,")],
+        &[
+            "raw.rs",
+            "CountAnswer: field 2",
+            "count: usize",
+            "count: u32",
+        ],
+    ),
+    texts(
+        &[(
+            RECORDING,
+            "piece: &[u8], line: &mut [u8],",
+            "line: &mut [u8], piece: &[u8],",
+        )],
+        &[
+            "hansobrik_read: parameter 3",
+            "const uint8_t *piece",
+            "uint8_t *line",
+        ],
+    ),
+    texts(
+        &[(
+            SECTOR,
+            "pub extern \"C\" fn hansobrik_filler",
+            "pub extern \"C\" fn hansobrik_fill",
+        )],
+        &["hansobrik_filler: the source has no such function"],
+    ),
+    texts(
+        &[(
+            GROUND,
+            "#[repr(C)] pub struct StepAnswer",
+            "pub struct StepAnswer",
+        )],
+        &["hansobrik_stepped", "StepAnswer", "no #[repr(C)] struct"],
+    ),
+    texts(
+        &[(
+            GROUND,
+            "#[no_mangle] pub extern \"C\" fn hansobrik_stepped",
+            "pub extern \"C\" fn hansobrik_stepped",
+        )],
+        &[GROUND, "`extern` without #[no_mangle]"],
+    ),
+    texts(
+        &[(
+            BLOCKS,
+            "#[no_mangle]",
+            "#[export_name = \"hansobrik_other\"]",
+        )],
+        &[BLOCKS, "`export_name`"],
+    ),
+    texts(
+        &[(SECTOR, "pub vis4: u8,", "pub vis4: u16,")],
+        &["StripAnswer", "vis1 to vis4"],
+    ),
+    // refusals
+    texts(
+        &[(
+            HEADER,
+            "HANSOBRIK_REFUSED_SEGMENT = 8",
+            "HANSOBRIK_REFUSED_SEGMENT = 9",
+        )],
+        &["HANSOBRIK_REFUSED_SEGMENT is 9, but 8", NUMBERS],
+    ),
+    texts(
+        &[
+            (
+                HEADER,
+                "HANSOBRIK_REFUSED_FORMAT = 1,",
+                "HANSOBRIK_REFUSED_SWAP = 12,",
+            ),
+            (
+                HEADER,
+                "HANSOBRIK_REFUSED_STATE = 12,",
+                "HANSOBRIK_REFUSED_FORMAT = 1,",
+            ),
+            (
+                HEADER,
+                "HANSOBRIK_REFUSED_SWAP = 12,",
+                "HANSOBRIK_REFUSED_STATE = 12,",
+            ),
+        ],
+        &["HANSOBRIK_REFUSED_STATE stands where HANSOBRIK_REFUSED_FORMAT is tested"],
+    ),
+    texts(
+        &[(
+            REFUSAL,
+            "FIELD: Refusal = Refusal(7)",
+            "FIELD: Refusal = Refusal(8)",
+        )],
+        &["FIELD is 8, but 7", NUMBERS],
+    ),
+    texts(
+        &[(
+            NUMBERS,
+            "pub const RANGE: u8 = 10;",
+            "pub const RANGE: u8 = 13;",
+        )],
+        &[NUMBERS, "13", ORDER],
+    ),
+    texts(
+        &[(ORDER, "1 ∷ 12 ∷", "12 ∷ 1 ∷")],
+        &["order of testing is [12, 1,", ORDER],
+    ),
+    texts(
+        &[(TABLE, "| 12 | `STATE` |", "| 13 | `STATE` |")],
+        &[TABLE, "STATE is 13, but 12"],
+    ),
+    texts(
+        &[
+            (TABLE, "| 1 | `FORMAT` |", "| 0 | `SWAP` |"),
+            (TABLE, "| 12 | `STATE` |", "| 1 | `FORMAT` |"),
+            (TABLE, "| 0 | `SWAP` |", "| 12 | `STATE` |"),
+        ],
+        &[TABLE, "STATE stands where FORMAT is tested"],
+    ),
+    texts(
+        &[(
+            HEADER,
+            "return \"the output is shorter than the result\";",
+            "return \"the output is shorter\";",
+        )],
+        &[
+            "the words of 3, SHORT_OUTPUT",
+            "the output is shorter than the result",
+        ],
+    ),
+    texts(
+        &[(
+            REFUSAL,
+            "the segment differs from the stored one",
+            "the segment differs",
+        )],
+        &[
+            "the words of 8, SEGMENT",
+            "the segment differs from the stored one",
+        ],
+    ),
+    // the refusals of each call
+    texts(
+        &[(
+            HEADER,
+            "Refused: FORMAT, STATE, SHORT_INPUT.",
+            "Refused: FORMAT, SHORT_INPUT.",
+        )],
+        &[
+            "hansobrik_read: refused with (FORMAT, SHORT_INPUT) by its comment",
+            "(FORMAT, STATE, SHORT_INPUT) by",
+        ],
+    ),
+    texts(
+        &[(
+            HEADER,
+            "Refused: RANGE, SHORT_INPUT, FIELD.",
+            "Refused: SHORT_INPUT, RANGE, FIELD.",
+        )],
+        &["hansobrik_read_bcd: refused with (SHORT_INPUT, RANGE, FIELD) by its comment"],
+    ),
+    texts(
+        &[(HEADER, "first bit. Never refused.", "first bit.")],
+        &["the comment of hansobrik_fresh names no refusals"],
+    ),
+    texts(
+        &[(
+            ORDERS,
+            "(stripRefusal f long given) (formatTest f ∷ (2,",
+            "(stripRefusal f long given) (formatTest f ∷ (4,",
+        )],
+        &[
+            "hansobrik_strip: refused with",
+            "(FORMAT, NUMBER, SHORT_OUTPUT) by",
+            ORDERS,
+        ],
+    ),
+    texts(
+        &[(ORDERS, "pub put-real :", "pub put-reals :")],
+        &["Orders has no row for hansobrik_put_real"],
+    ),
+    // sizes, names, the version
+    texts(
+        &[(
+            HEADER,
+            "HANSOBRIK_WIRE_BYTES_2 = 49500",
+            "HANSOBRIK_WIRE_BYTES_2 = 49501",
+        )],
+        &["HANSOBRIK_WIRE_BYTES_2 is 49501, but 49500", FORMATS],
+    ),
+    texts(
+        &[(HEADER, "HANSOBRIK_SYNC_BYTES_1 = 1250,", "")],
+        &[HEADER, "HANSOBRIK_SYNC_BYTES_1 is missing"],
+    ),
+    texts(
+        &[(
+            HEADER,
+            "HANSOBRIK_SYNC_BYTES_1 = 1250,",
+            "HANSOBRIK_SYNC_BYTES_1 = 1250, HANSOBRIK_MORE = 1,",
+        )],
+        &["HANSOBRIK_MORE: the source has no such name"],
+    ),
+    texts(
+        &[(
+            SIZES,
+            "IR_PIXELS: usize = 2_291",
+            "IR_PIXELS: usize = 2_292",
+        )],
+        &[SIZES, "IR_PIXELS is 2292, but 2291", LAYOUT],
+    ),
+    texts(
+        &[(
+            FORMATS,
+            "SYNC_BITS_2: usize = 20000",
+            "SYNC_BITS_2: usize = 20008",
+        )],
+        &["HANSOBRIK_WIRE_BYTES_2 is 49500, but 49501", FORMATS],
+    ),
+    texts(
+        &[(BLOCK, "size: 10250,", "size: 10225,")],
+        &["HANSOBRIK_MANAM_BYTES is 10250, but 10225", BLOCK],
+    ),
+    texts(
+        &[(SIZES, "pub const SEGMENTS: u8 = 25;", "")],
+        &[SIZES, "SEGMENTS is missing"],
+    ),
+    texts(
+        &[(HEADER, "HANSOBRIK_MIRROR_1B = 2", "HANSOBRIK_MIRROR_1B = 5")],
+        &["HANSOBRIK_MIRROR_1B is 5, but 2", NAMED],
+    ),
+    texts(
+        &[(DOCUMENTATION, "=> ScanMode::Limited", "=> ScanMode::Single")],
+        &[DOCUMENTATION, "HANSOBRIK_SCAN_LIMITED is missing"],
+    ),
+    texts(
+        &[(
+            HEADER,
+            "#define HANSOBRIK_VERSION_MINOR",
+            "#define HANSOBRIK_VERSION_MINOR 1 +",
+        )],
+        &[
+            "by cc:",
+            "HANSOBRIK_VERSION_MINOR is",
+            "by the source",
+            GROUND,
+        ],
+    ),
+    texts(
+        &[(
+            HEADER,
+            "#define HANSOBRIK_VERSION_TEXT \"",
+            "#define HANSOBRIK_VERSION_TEXT \"1",
+        )],
+        &["HANSOBRIK_VERSION_TEXT is \"1", GROUND],
+    ),
+    texts(
+        &[(MANIFEST, "version = \"", "version = \"1")],
+        &[MANIFEST, "version = \"1", "but", GROUND],
+    ),
+    // what the texts do not show, and what the compilers see without them
+    texts(
+        &[(
+            HEADER,
+            "typedef struct",
+            "\n#pragma pack(1)\ntypedef struct",
+        )],
+        &[
+            "by cc:",
+            "the size of hansobrik_count_answer is 9, but 16 by the source",
+        ],
+    ),
+    texts(
+        &[(
+            RAW,
+            "#[repr(C)]",
+            "use core::primitive::u32 as u16; #[repr(C)]",
+        )],
+        &[
+            "by rustc:",
+            "not raw::StepAnswer.register as u16",
+            "found `*const u32`",
+        ],
+    ),
+    texts(
+        &[(HEADER, "extern \"C\" {", "extern \"C++\" {")],
+        &["by c++:", "hansobrik_read(", "with 'C' linkage"],
+    ),
+    compilers(
+        &[(HEADER, "uint32_t marks; /*", "uint16_t marks; /*")],
+        &["by cc:", "not hansobrik_add_answer.marks as uint32_t"],
+    ),
+    compilers(
+        &[(
+            HEADER,
+            "uint8_t hour; uint8_t minute;",
+            "uint8_t minute; uint8_t hour;",
+        )],
+        &[
+            "by c++:",
+            "the offset of hansobrik_date_answer.hour is 4, but 3 by the source",
+        ],
+    ),
+    compilers(
+        &[(
+            HEADER,
+            "hansobrik_answers(uint8_t format, const uint8_t *line",
+            "hansobrik_answers(uint8_t format, uint8_t *line",
+        )],
+        &[
+            "by cc:",
+            "not hansobrik_answers as hansobrik_twelve_answer (uint8_t, const uint8_t *, size_t)",
+        ],
+    ),
+    compilers(
+        &[(
+            HEADER,
+            "HANSOBRIK_WIRE_BYTES_2 = 49500",
+            "HANSOBRIK_WIRE_BYTES_2 = 49501",
+        )],
+        &[
+            "by cc:",
+            "HANSOBRIK_WIRE_BYTES_2 is 49501, but 49500 by the source",
+        ],
+    ),
+    compilers(
+        &[(RAW, "pub magnitude: u64,", "pub magnitude: u32,")],
+        &[
+            "by rustc:",
+            "the size of raw::RealAnswer is 8, but 16 by the source",
+        ],
+    ),
+    compilers(
+        &[(
+            RAW,
+            "pub set_line: u16, pub reset_line: u16,",
+            "pub reset_line: u16, pub set_line: u16,",
+        )],
+        &[
+            "by rustc:",
+            "the offset of raw::LinesAnswer.set_line is 4, but 2 by the source",
+        ],
+    ),
+    compilers(
+        &[(RAW, "piece: *const u8", "piece: *mut u8")],
+        &[
+            "by rustc:",
+            "not raw::hansobrik_read as fn(u8, raw::State, *const u8, usize",
+        ],
+    ),
+    compilers(
+        &[(
+            SIZES,
+            "IR_PIXELS: usize = 2_291",
+            "IR_PIXELS: usize = 2_292",
+        )],
+        &[
+            "by rustc:",
+            "sizes::IR_PIXELS is 2292, but 2291 by the source",
+        ],
+    ),
+    compilers(
+        &[(
+            REFUSAL,
+            "FIELD: Refusal = Refusal(7)",
+            "FIELD: Refusal = Refusal(8)",
+        )],
+        &["by rustc:", "refusal::Refusal::FIELD is 8, but 7 by"],
+    ),
+];
