@@ -66,7 +66,7 @@ abbrev pub TwelveAlone : TwelveAnswer → Type 0
 TwelveAlone a = Refuses (a .refused) → a ≡ record { refused = a .refused; answers = replicate 12 0 }
 
 abbrev pub StripAlone : StripAnswer → Type 0
-StripAlone a = Refuses (a .refused) → a ≡ record { refused = a .refused; vis1 = 0; vis2 = 0; vis3 = 0; vis4 = 0 }
+StripAlone a = Refuses (a .refused) → a ≡ record { refused = a .refused; vis = replicate 4 0 }
 
 -- `read_integer`, `integer_field`
 abbrev pub IntegerAlone : IntegerAnswer → Type 0

@@ -1,4 +1,5 @@
 -- The answers of the calls on sectors that are more than one number. Assumes nothing.
+use mathlib.Core.List.{[], _∷_}
 use Rattle.sectors.specs.declared.check.Counted.{Counted}
 use Rattle.sectors.specs.declared.check.Twelve.{Twelve}
 use Rattle.visible.specs.declared.strip.Stripped.{Stripped}
@@ -18,8 +19,5 @@ fillerGiven a = countGiven (countedNumber a) (countedCount a)
 unfoldable pub stripGiven : Stripped → StripAnswer
 stripGiven a = record {
   refused = strippedNumber a;
-  vis1 = strippedAnswers a .one;
-  vis2 = strippedAnswers a .two;
-  vis3 = strippedAnswers a .three;
-  vis4 = strippedAnswers a .four;
+  vis = strippedAnswers a .one ∷ strippedAnswers a .two ∷ strippedAnswers a .three ∷ strippedAnswers a .four ∷ [];
 }

@@ -24,10 +24,7 @@ use visible::strip::Stripped;
 #[repr(C)]
 pub struct StripAnswer {
     pub refused: u8,
-    pub vis1: u8,
-    pub vis2: u8,
-    pub vis3: u8,
-    pub vis4: u8,
+    pub vis: [u8; 4],
 }
 
 // Whether a sector is accepted: 0, or refused with 1, 4, 2, 5, 6.
@@ -127,17 +124,11 @@ fn strip_given(a: Stripped) -> StripAnswer
     match a {
         Stripped::Parts(a) => StripAnswer {
             refused: 0,
-            vis1: a.one,
-            vis2: a.two,
-            vis3: a.three,
-            vis4: a.four,
+            vis: [a.one, a.two, a.three, a.four],
         },
         Stripped::Refused(n) => StripAnswer {
             refused: n,
-            vis1: 0,
-            vis2: 0,
-            vis3: 0,
-            vis4: 0,
+            vis: [0, 0, 0, 0],
         },
     }
 }

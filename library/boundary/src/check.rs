@@ -32,7 +32,6 @@ pub fn check(tree: &Tree, archives: &[PathBuf], asked: Asked) -> Result<Agreed, 
     written(&work, tree).map_err(one)?;
 
     let boundary = source::boundary(tree.rattle()).map_err(one)?;
-    let boundary = source::with_arrays(boundary, &source::ARRAYS).map_err(one)?;
     let tokens = header::preprocessed(work.path(), "hansobrik.h").map_err(one)?;
     let header = header::parse(&tokens).map_err(one)?;
     let in_rust = rust::declared(tree.text(rust::RAW).map_err(one)?).map_err(one)?;

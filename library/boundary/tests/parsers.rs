@@ -5,7 +5,7 @@ use boundary::header::{of_file, parse};
 use boundary::model::{c_name, rust_name, Boundary, Language};
 use boundary::numbers::{order, table};
 use boundary::sizes::of_constants;
-use boundary::source::{boundary, with_arrays};
+use boundary::source::boundary;
 use boundary::tokens::{number, tokens};
 use boundary::{compare, rust};
 
@@ -221,26 +221,6 @@ fn a_struct_is_the_one_that_its_file_means() {
     }
     let none = user.replace("use rack_a::A;", "");
     assert!(both(&none).unwrap_err().contains("A of crate rack_b"));
-}
-
-#[test]
-fn fields_of_one_type_are_an_array() {
-    let source = "#[no_mangle]\npub extern \"C\" fn hansobrik_a() -> A {}
-        #[repr(C)]\npub struct A { pub r: u8, pub v1: u16, pub v2: u16, pub e: u8 }";
-    let arrays = [("A", "v", 2)];
-    let found = with_arrays(of(source).unwrap(), &arrays).unwrap();
-    assert_eq!(
-        shown(&found, Language::C)[1],
-        "hansobrik_a { uint8_t r; uint16_t v[2]; uint8_t e }"
-    );
-    assert_eq!(found.layouts().unwrap()["A"].offsets, [0, 2, 6]);
-    for other in ["pub v2: u8", "pub v3: u16", "pub e: u8, pub v2: u16"] {
-        let source = source.replace("pub v2: u16", other);
-        assert!(
-            with_arrays(of(&source).unwrap(), &arrays).is_err(),
-            "{other}"
-        );
-    }
 }
 
 #[test]

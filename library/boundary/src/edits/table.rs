@@ -287,8 +287,8 @@ pub const EDITS: &[Edit] = &[
         &[BLOCKS, "`export_name`"],
     ),
     texts(
-        &[(SECTOR, "pub vis4: u8,", "pub vis4: u16,")],
-        &["StripAnswer", "vis1 to vis4"],
+        &[(SECTOR, "pub vis: [u8; 4],", "pub vis: [u8; 3],")],
+        &["hansobrik_strip_answer: field 2", "vis[4]", "vis[3]"],
     ),
     // refusals
     texts(
