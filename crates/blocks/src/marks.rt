@@ -8,8 +8,8 @@ pub struct Marks {
     pub segments: u32,
 }
 
-// All 25 segments.
-const ALL: u32 = 0x1FF_FFFF;
+// The marks of a finished block: all 25 segments.
+pub const ALL: u32 = 0x1FF_FFFF;
 
 // The marks of an assembly that has no segment yet.
 pub fn no_marks() -> Marks

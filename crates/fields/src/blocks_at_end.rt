@@ -2,6 +2,7 @@
 // point of the map, the orbital elements, and the first, a middle and the last level of each channel.
 use crate::five::Five;
 use crate::five::marks_of;
+use blocks::marks::ALL;
 use blocks::marks::Marks;
 use entries::mapping::Grid;
 use entries::mapping::Mapped;
@@ -12,9 +13,6 @@ use text::Row;
 
 // The bytes of the five blocks in all.
 const ROOM: usize = 47950;
-
-// The marks of a finished block.
-const FINISHED: u32 = 0x1FF_FFFF;
 
 fn wide(n: u32) -> u64 {
     n as u64
@@ -61,7 +59,7 @@ fn point(format: u8, m: Marks, block: &[u8], row: u16, column: u16) -> bool {
 }
 
 fn mapping(format: u8, m: Marks, block: &[u8]) -> bool {
-    if m.segments != FINISHED {
+    if m.segments != ALL {
         return true;
     }
     point(format, m, block, 0, 0)
@@ -103,7 +101,7 @@ fn say_orbit(row: Row, block: &[u8]) -> Row {
 }
 
 fn orbit(format: u8, m: Marks, block: &[u8]) -> bool {
-    if m.segments != FINISHED {
+    if m.segments != ALL {
         return true;
     }
     let named = text::empty().words(b"orbit");
@@ -154,7 +152,7 @@ fn temperatures(format: u8, m: Marks, block: &[u8], c: u8) -> bool {
 }
 
 fn levels(format: u8, m: Marks, block: &[u8]) -> bool {
-    if m.segments != FINISHED {
+    if m.segments != ALL {
         return true;
     }
     albedos(format, m, block, 1)

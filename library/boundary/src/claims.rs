@@ -39,45 +39,73 @@ fn of_type(left: String, right: String, what: String, at: &str) -> Claim {
     }
 }
 
-/// The claims for C and C++.
-pub fn c(boundary: &Boundary, numbers: &Numbers, version: &Version) -> Result<Vec<Claim>, String> {
+/// How a language asks what a struct and its fields have: by the struct's name,
+/// the field's name and the field's type.
+struct Asks {
+    size: fn(&str) -> String,
+    align: fn(&str) -> String,
+    offset: fn(&str, &str) -> String,
+    /// The two sides of the claim that a field has its type.
+    field: fn(&str, &str, &str) -> (String, String),
+}
+
+const OF_C: Asks = Asks {
+    size: |name| format!("sizeof({name})"),
+    align: |name| format!("ALIGNMENT({name})"),
+    offset: |name, field| format!("offsetof({name}, {field})"),
+    field: |name, field, of| {
+        let pointer = match of.split_once('[') {
+            Some((of, count)) => format!("{of} (*)[{count}"),
+            None => format!("{of} *"),
+        };
+        (format!("&(({name} *)0)->{field}"), pointer)
+    },
+};
+
+const OF_RUST: Asks = Asks {
+    size: |name| format!("core::mem::size_of::<{name}>()"),
+    align: |name| format!("core::mem::align_of::<{name}>()"),
+    offset: |name, field| format!("core::mem::offset_of!({name}, {field})"),
+    // a pointer: a reference would change into another one by itself
+    field: |name, field, of| {
+        (
+            format!("fn(&{name}) -> *const {of}"),
+            format!("|r| core::ptr::addr_of!(r.{field})"),
+        )
+    },
+};
+
+/// What every struct has, asked in a language.
+fn structs(
+    boundary: &Boundary,
+    language: Language,
+    path: &str,
+    asks: &Asks,
+) -> Result<Vec<Claim>, String> {
     let layouts = boundary.layouts()?;
     let mut out = Vec::new();
     for of in &boundary.structs {
-        let record = Language::C.record(of, "");
+        let record = language.record(of, path);
         let (name, layout, at) = (&record.name, &layouts[&of.name], &of.at);
-        out.push(number(
-            format!("sizeof({name})"),
-            layout.size,
-            format!("the size of {name}"),
-            at,
-        ));
-        out.push(number(
-            format!("ALIGNMENT({name})"),
-            layout.align,
-            format!("the alignment of {name}"),
-            at,
-        ));
+        let what = format!("the size of {name}");
+        out.push(number((asks.size)(name), layout.size, what, at));
+        let what = format!("the alignment of {name}");
+        out.push(number((asks.align)(name), layout.align, what, at));
         for (part, offset) in record.parts.iter().zip(&layout.offsets) {
             let (field, of) = (&part.name, &part.of);
-            let pointer = match of.split_once('[') {
-                Some((of, count)) => format!("{of} (*)[{count}"),
-                None => format!("{of} *"),
-            };
-            out.push(number(
-                format!("offsetof({name}, {field})"),
-                *offset,
-                format!("the offset of {name}.{field}"),
-                &part.at,
-            ));
-            out.push(of_type(
-                format!("&(({name} *)0)->{field}"),
-                pointer,
-                format!("{name}.{field} as {of}"),
-                &part.at,
-            ));
+            let what = format!("the offset of {name}.{field}");
+            out.push(number((asks.offset)(name, field), *offset, what, &part.at));
+            let (left, right) = (asks.field)(name, field, of);
+            let what = format!("{name}.{field} as {of}");
+            out.push(of_type(left, right, what, &part.at));
         }
     }
+    Ok(out)
+}
+
+/// The claims for C and C++.
+pub fn c(boundary: &Boundary, numbers: &Numbers, version: &Version) -> Result<Vec<Claim>, String> {
+    let mut out = structs(boundary, Language::C, "", &OF_C)?;
     for function in &boundary.functions {
         let function = Language::C.function(function, "");
         let (name, gives) = (&function.name, &function.gives);
@@ -118,40 +146,7 @@ pub fn c(boundary: &Boundary, numbers: &Numbers, version: &Version) -> Result<Ve
 
 /// The claims for Rust.
 pub fn rust(boundary: &Boundary, numbers: &Numbers) -> Result<Vec<Claim>, String> {
-    let layouts = boundary.layouts()?;
-    let mut out = Vec::new();
-    for of in &boundary.structs {
-        let record = Language::Rust.record(of, "raw::");
-        let (name, layout, at) = (&record.name, &layouts[&of.name], &of.at);
-        out.push(number(
-            format!("core::mem::size_of::<{name}>()"),
-            layout.size,
-            format!("the size of {name}"),
-            at,
-        ));
-        out.push(number(
-            format!("core::mem::align_of::<{name}>()"),
-            layout.align,
-            format!("the alignment of {name}"),
-            at,
-        ));
-        for (part, offset) in record.parts.iter().zip(&layout.offsets) {
-            let (field, of) = (&part.name, &part.of);
-            out.push(number(
-                format!("core::mem::offset_of!({name}, {field})"),
-                *offset,
-                format!("the offset of {name}.{field}"),
-                &part.at,
-            ));
-            // a pointer: a reference would change into another one by itself
-            out.push(of_type(
-                format!("fn(&{name}) -> *const {of}"),
-                format!("|r| core::ptr::addr_of!(r.{field})"),
-                format!("{name}.{field} as {of}"),
-                &part.at,
-            ));
-        }
-    }
+    let mut out = structs(boundary, Language::Rust, "raw::", &OF_RUST)?;
     for function in &boundary.functions {
         let function = Language::Rust.function(function, "raw::");
         let (name, gives) = (&function.name, &function.gives);
