@@ -11,6 +11,26 @@
 
 #define BYTES const uint8_t *p, size_t c
 
+/* For wrong fillers, what a count by words is made of: the bits up to a byte edge, words of eight bytes, the rest. */
+static inline size_t filler_end(uint8_t s)
+{
+    static const size_t ends[] = {20408, 40816, 61224, 81632, 138692, 195752, 252812, 309872, 316534, 323196, 329858, 354848};
+    return ends[s - 1];
+}
+static inline size_t filler_start(uint8_t s) { return filler_end(s) - 2048; }
+static inline size_t words_start(uint8_t s) { return (filler_start(s) + 7) / 8 * 8; }
+static inline size_t words_end(uint8_t s) { return words_start(s) + (filler_end(s) - words_start(s)) / 64 * 64; }
+
+/* The set bits from one place of a line to before another. */
+static inline size_t ones(const uint8_t *p, size_t from, size_t to)
+{
+    size_t count = 0;
+    for (; from < to; from++)
+        if (p[from / 8] >> (7 - from % 8) & 1)
+            count++;
+    return count;
+}
+
 #if FAULT == 1 /* 2,048 set filler bits are counted as one less */
 static hansobrik_count_answer wrong(uint8_t f, BYTES, uint8_t s)
 {
@@ -216,4 +236,51 @@ static uint32_t wrong(void)
     return hansobrik_version() + 100;
 }
 #define hansobrik_version wrong
+#elif FAULT == 24 /* of sector 9 the bit before the filler is counted too */
+static hansobrik_count_answer wrong(uint8_t f, BYTES, uint8_t s)
+{
+    hansobrik_count_answer a = hansobrik_filler(f, p, c, s);
+    if (!a.refused && s == 9)
+        a.count += ones(p, filler_start(s) - 1, filler_start(s));
+    return a;
+}
+#define hansobrik_filler wrong
+#elif FAULT == 25 /* the bits behind the last whole word of a filler are left out */
+static hansobrik_count_answer wrong(uint8_t f, BYTES, uint8_t s)
+{
+    hansobrik_count_answer a = hansobrik_filler(f, p, c, s);
+    if (!a.refused)
+        a.count -= ones(p, words_end(s), filler_end(s));
+    return a;
+}
+#define hansobrik_filler wrong
+#elif FAULT == 26 /* one word of sector 11's filler is left out */
+static hansobrik_count_answer wrong(uint8_t f, BYTES, uint8_t s)
+{
+    hansobrik_count_answer a = hansobrik_filler(f, p, c, s);
+    if (!a.refused && s == 11)
+        a.count -= ones(p, words_start(s) + 17 * 64, words_start(s) + 18 * 64);
+    return a;
+}
+#define hansobrik_filler wrong
+#elif FAULT == 27 /* the mask 7 where a byte's count needs 15: in a word, eight set bits are none */
+static hansobrik_count_answer wrong(uint8_t f, BYTES, uint8_t s)
+{
+    hansobrik_count_answer a = hansobrik_filler(f, p, c, s);
+    for (size_t i = 0; !a.refused && i < words_end(s) - words_start(s); i += 8)
+        if (p[words_start(s) / 8 + i / 8] == 0xFF)
+            a.count -= 8;
+    return a;
+}
+#define hansobrik_filler wrong
+#elif FAULT == 28 /* 63 set bits of a word are counted as 64 */
+static hansobrik_count_answer wrong(uint8_t f, BYTES, uint8_t s)
+{
+    hansobrik_count_answer a = hansobrik_filler(f, p, c, s);
+    for (size_t i = 0; !a.refused && i < words_end(s) - words_start(s); i += 64)
+        if (ones(p, words_start(s) + i, words_start(s) + i + 64) == 63)
+            a.count++;
+    return a;
+}
+#define hansobrik_filler wrong
 #endif

@@ -5,16 +5,12 @@ use mathlib.Core.List.{List, [], _∷_}
 use Prim.Native.Nat.{ℕ, suc, _+_, _%_, _<_}
 use native.Mathlib.Omega.{arith}
 use borrow.Author.Tests.{eqb-true, eqb-false}
+use lib.Bits.{bitXor}
 use lib.Dec.{eqb}
-use Rattle.bits.specs.Bits.{through, setBits, mixed, apart, Below}
-use Rattle.bits.proofs.Through.{set-append}
-
-set-one : (b : ℕ) → setBits (b ∷ []) ≡ b
-unfolding setBits through
-set-one b = omega arith
-
-set-cons : (b : ℕ) (bs : List ℕ) → setBits (b ∷ bs) ≡ b + setBits bs
-set-cons b bs = set-append (b ∷ []) bs ∙ ap (λ (k : ℕ). k + setBits bs) (set-one b)
+use Rattle.bits.specs.Bits.{digits, through, setBits, mixed, apart, Below}
+use Rattle.bits.proofs.Counts.{set-cons}
+use Rattle.bits.proofs.Digits.{digits-below}
+use Rattle.bits.proofs.Mixed.{digits-xor}
 
 -- two bits differ where their exclusive or is set
 one-apart : (x y n : ℕ) → x < 2 → y < 2 → cond (eqb y x) n (suc n) ≡ (x + y) % 2 + n
@@ -31,3 +27,7 @@ apart-mixed (x ∷ xs) [] p q = unfold setBits through in refl
 apart-mixed (x ∷ xs) (y ∷ ys) p q =
     one-apart x y (apart xs ys) (p .0) (q .0)
     ∙ ap (λ (n : ℕ). (x + y) % 2 + n) (apart-mixed xs ys (p .1) (q .1)) ∙ sym (set-cons ((x + y) % 2) (mixed xs ys))
+
+-- two numbers of any width: by the set bits of their exclusive or
+pub apart-digits : (w a b : ℕ) → apart (digits w a) (digits w b) ≡ setBits (digits w (bitXor a b))
+apart-digits w a b = apart-mixed (digits w a) (digits w b) (digits-below w a) (digits-below w b) ∙ ap setBits (sym (digits-xor w a b))

@@ -6,6 +6,7 @@ pub mod Digits
 pub mod Mixed
 pub mod Packed
 pub mod Zeros
+pub mod Stretches
 pub mod Bytes
 pub mod Store
 pub mod Window
@@ -13,7 +14,8 @@ pub mod Writes
 pub mod Packing
 pub mod Fields
 pub mod Same
-pub mod Stretches
+pub mod Counts
 pub mod Distance
 pub mod Base
 pub mod Whole
+pub mod Parallel

@@ -5,7 +5,7 @@ use mathlib.Core.List.{List, _++_, append-assoc}
 use Prim.Native.Nat.{ℕ, _+_, _≤_, _<_}
 use native.Mathlib.Omega.{arith}
 use lib.ListN.{length, getD, take, drop, length-drop, take-append-drop}
-use lib.Seq.{getD-take, getD-drop, take-at, drop-at, drop-drop, length-take-le}
+use lib.Seq.{getD-take, getD-drop, take-add, take-at, drop-at, drop-drop, length-take-le}
 use Rattle.bits.specs.Bits.{stretch}
 
 pub stretch-length : (l : List ℕ) (at n : ℕ) → at + n ≤ length l → length (stretch l at n) ≡ n
@@ -15,6 +15,11 @@ stretch-length l at n h = length-take-le n (drop at l) (rw length-drop (omega ar
 pub stretch-at : (l : List ℕ) (at n i : ℕ) → i < n → getD l (at + i) 0 ≡ getD (stretch l at n) i 0
 unfolding stretch
 stretch-at l at n i h = sym (getD-take n (drop at l) i 0 h ∙ getD-drop at l i 0)
+
+-- one behind the other
+pub stretch-append : (l : List ℕ) (at m n : ℕ) → stretch l at (m + n) ≡ stretch l at m ++ stretch l (at + m) n
+unfolding stretch
+stretch-append l at m n = take-add m n (drop at l) ∙ ap (λ (r : List ℕ). take m (drop at l) ++ take n r) (drop-drop m at l)
 
 -- ---- pieces
 

@@ -52,8 +52,8 @@ pub fn fill(value: u8, n: usize, b: &mut [u8], at: usize)
     }
 }
 
-// A byte as a number.
-fn byte_at(bytes: &[u8], i: usize) -> u64
+// Inner. A byte as a number.
+pub fn byte_at(bytes: &[u8], i: usize) -> u64
     requires { ⌜ i < length (now bytes) ⌝ }
     ensures { λ r. ⌜ (r ≡ getD (now (bytes .entry)) i 0) × (r < 256) ⌝ }
 {

@@ -1,8 +1,8 @@
 -- THE TABLE HOLDS TOGETHER: the sectors follow each other without gap or overlap and end at the line's last bit; which
--- of them start off a byte edge; and what holds of each row. Assumes nothing.
+-- of them, and of their fillers, start off a byte edge; and what holds of each row. Assumes nothing.
 use mathlib.Core.Path.{_≡_, refl, sym, subst}
 use mathlib.Core.Bool.{Bool, true, _&&_, cond}
-use mathlib.Core.List.{List, [], _∷_}
+use mathlib.Core.List.{List, [], _∷_, map}
 use Prim.Native.Nat.{ℕ, zero, suc, _+_, _*_, _-_, _%_, _^_, _≤_, _<_}
 use native.Mathlib.Nat.{not-suc-le-zero, le-of-suc-le-suc}
 use native.Mathlib.Omega.{arith}
@@ -12,7 +12,7 @@ use lib.Seq.{getD-take}
 use lib.Ieee.Fits.{and-l, and-r}
 use Rattle.formats.specs.Formats.{informationBits}
 use Rattle.sectors.specs.declared.layout.Layout.{Layout}
-use Rattle.sectors.specs.Layout.{sectors, none, layoutOf, checkBits, fillerBits, Sound}
+use Rattle.sectors.specs.Layout.{sectors, none, layoutOf, checkBits, fillerBits, fillerAt, Sound}
 
 -- ---- a test over the whole table
 
@@ -98,3 +98,8 @@ offByte n (l ∷ ls) = cond (eqb (l .start % 8) 0) (offByte (n + 1) ls) (n ∷ o
 pub five-off : offByte 1 sectors ≡ 6 ∷ 8 ∷ 10 ∷ 11 ∷ 12 ∷ []
 unfolding offByte sectors
 five-off = refl
+
+-- at which bit of a byte each filler starts
+pub fillers-off : map (λ (l : Layout). fillerAt l % 8) sectors ≡ 0 ∷ 0 ∷ 0 ∷ 0 ∷ 4 ∷ 0 ∷ 4 ∷ 0 ∷ 6 ∷ 4 ∷ 2 ∷ 0 ∷ []
+unfolding sectors
+fillers-off = refl

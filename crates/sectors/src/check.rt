@@ -51,7 +51,7 @@ pub fn count_filler(l: Layout, line: &[u8]) -> usize
     requires { ⌜ Sound l × (lineBytes ≤ length (now line)) ⌝ }
     ensures { λ r. ⌜ r ≡ fillerOf l (bitsOf (now (line .entry))) ⌝ }
 {
-    slices::count_set(
+    set_bits::count_set(
         line,
         l.start + l.id_bits + l.data_bits + CHECK_BITS,
         FILLER_BITS,

@@ -2,7 +2,7 @@
 // bit place, and many fields of one width unpacked. Bit places count from 0. `slice_writer` puts them.
 //
 // The contracts cite the definitions of the crate `bits`: `bitsOf` is the slice as bits, `part` some of them, `numberOf` the
-// number that they write, `setBits` how many are set. Every width is served by the same functions and the same laws.
+// number that they write. Every width is served by the same functions and the same laws.
 //
 // All functions here are inner: each asks that the places it is given lie in the slice, and the calls above, which users make,
 // refuse instead.
@@ -10,7 +10,7 @@ ghost use mathlib.Core.Path.{_≡_};
 ghost use mathlib.Core.List.{_++_};
 ghost use Prim.Native.Nat.{_+_, _*_, _^_, _≤_, _<_};
 ghost use lib.ListN.{length, getD, drop};
-ghost use Rattle.bits.specs.Bits.{bitsOf, part, numberOf, setBits, fieldsOf};
+ghost use Rattle.bits.specs.Bits.{bitsOf, part, numberOf, fieldsOf};
 
 // Inner. The bit at a place.
 pub fn bit_at(s: &[u8], at: usize) -> u8
@@ -18,20 +18,6 @@ pub fn bit_at(s: &[u8], at: usize) -> u8
     ensures { λ r. ⌜ (r ≡ getD (bitsOf (now (s .entry))) at 0) × (r < 2) ⌝ }
 {
     (s[at >> 3] >> (7 - (at & 7))) & 1
-}
-
-// Inner. How many of count bits are set.
-pub fn count_set(s: &[u8], from: usize, count: usize) -> usize
-    requires { ⌜ (from + count ≤ 8 * length (now s)) × (from + count < 2 ^ 64) ⌝ }
-    ensures { λ r. ⌜ (r ≡ setBits (part (now (s .entry)) from count)) × (r ≤ count) ⌝ }
-{
-    let mut n: usize = 0;
-    let mut i: usize = 0;
-    while i < count {
-        n += bit_at(s, from + i) as usize;
-        i += 1;
-    }
-    n
 }
 
 // The byte at a place, and 0 past the end.

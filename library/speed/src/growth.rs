@@ -1,36 +1,50 @@
 //! How the cost grows with the lines of a recording: per line it must not.
 
-use crate::decoder::Decoder;
-use crate::input::recording;
-use crate::ours::Ours;
+use crate::input::{recording, Input};
+use crate::library::{heading, library, over, split};
 use crate::theirs::Theirs;
-use crate::timing::{nanoseconds, Care, QUICK_WORK, SLOW_WORK};
-use crate::work::{each_line, read};
+use crate::timing::{in_turn, QUICK_WORK, SLOW_WORK};
+use crate::work::Work;
 
-const PIECE: usize = 4096;
-
-/// Nanoseconds per line, read alone and with all that is done with a line.
-fn per_line<D: Decoder>(care: Care, decoder: &mut D, wire: &[u8], lines: u64) -> (f64, f64) {
-    let alone = nanoseconds(care, || read(decoder, wire, PIECE, |_| 0));
-    let whole = nanoseconds(care, || read(decoder, wire, PIECE, each_line));
-    (alone / lines as f64, whole / lines as f64)
+/// The columns of one work: the library's, the second decoder's, and those of
+/// the library before; nanoseconds per line.
+fn columns(work: Work, input: &Input, lines: u64) -> [String; 3] {
+    let long = lines == 1000;
+    let care = if long { SLOW_WORK } else { QUICK_WORK };
+    let mut works = library(1, care, work, input);
+    if !long {
+        works.push(over(Theirs::new(1), SLOW_WORK, work, input));
+    }
+    let mut times = in_turn(works);
+    times.iter_mut().for_each(|time| *time /= lines as f64);
+    let second = if long {
+        // It would take minutes, and the smaller numbers show its growth.
+        " not run |".to_string()
+    } else {
+        let second = times.pop().expect("the second decoder's");
+        format!(" {second:.0} |")
+    };
+    let (now, before) = split(&times);
+    [format!(" {now:.0} |"), second, before]
 }
 
 pub fn print() {
     println!();
-    println!("| lines | reader, ns per line | whole line, ns per line | second, reader | second, whole line |");
-    println!("|---|---|---|---|---|");
+    heading(
+        "| lines | reader, ns per line | whole line, ns per line | second, reader | second, whole line |",
+        " before, reader | before / now | before, whole line | before / now |",
+    );
     for lines in [1, 10, 100, 1000] {
-        let wire = recording(1, lines);
-        let care = if lines == 1000 { SLOW_WORK } else { QUICK_WORK };
-        let (alone, whole) = per_line(care, &mut Ours::new(1), &wire, lines);
-        print!("| {lines} | {alone:.0} | {whole:.0} |");
-        if lines == 1000 {
-            // It would take minutes, and the smaller numbers show its growth.
-            println!(" not run | not run |");
-            continue;
-        }
-        let (alone, whole) = per_line(SLOW_WORK, &mut Theirs::new(1), &wire, lines);
-        println!(" {alone:.0} | {whole:.0} |");
+        let input = Input {
+            wire: recording(1, lines),
+            ..Input::new(1, 0)
+        };
+        let alone = columns(Work::Read { piece: 4096 }, &input, lines);
+        let whole = columns(Work::Line, &input, lines);
+        let pairs = alone.iter().zip(&whole);
+        let pairs: String = pairs
+            .flat_map(|(alone, whole)| [alone.as_str(), whole])
+            .collect();
+        println!("| {lines} |{pairs}");
     }
 }

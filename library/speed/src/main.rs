@@ -1,16 +1,24 @@
 //! How long the library's calls take, beside the second decoder doing the same
-//! work and beside a copy of the same number of bytes. Tables in Markdown.
+//! work and beside a copy of the same number of bytes; and the count of filler
+//! bits beside the same in Rust. Tables in Markdown.
+//!
+//! `library/speed/before` runs it with the feature `before`: then the tables
+//! also have the times of the library at an earlier commit.
 
 mod decoder;
+mod filler;
 mod growth;
 mod input;
+mod library;
 mod ours;
 mod table;
 mod theirs;
 mod timing;
+mod words;
 mod work;
 
 fn main() {
     table::print();
     growth::print();
+    filler::print();
 }

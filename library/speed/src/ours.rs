@@ -1,94 +1,104 @@
-//! The library.
+//! The library, and with the feature `before` that of an earlier commit: the
+//! same calls of another crate.
 
 use crate::decoder::{Decoder, Made};
 use crate::input::Input;
-use hansobrik as library;
-
-pub struct Ours {
-    format: u8,
-    state: library::State,
-    made: Made,
-}
-
-impl Ours {
-    pub fn new(format: u8) -> Ours {
-        Ours {
-            format,
-            state: library::fresh(),
-            made: Made::new(),
-        }
-    }
-}
 
 const GOOD: &str = "a good line";
 
-impl Decoder for Ours {
-    fn made(&mut self) -> &mut Made {
-        &mut self.made
-    }
-
-    fn begin(&mut self) {
-        self.state = library::fresh();
-    }
-
-    fn read(&mut self, piece: &[u8]) -> (usize, bool) {
-        let answer = library::read(self.format, &mut self.state, piece, &mut self.made.line);
-        let answer = answer.expect(GOOD);
-        (answer.taken, answer.complete)
-    }
-
-    fn accepted(&mut self, sector: u8) -> bool {
-        library::accepted(self.format, &self.made.line, sector).is_ok()
-    }
-
-    fn filler(&mut self, sector: u8) -> usize {
-        library::filler(self.format, &self.made.line, sector).expect(GOOD)
-    }
-
-    fn joined(&mut self, channel: u8) {
-        let made = &mut self.made;
-        library::joined(self.format, &made.line, channel, &mut made.joined).expect(GOOD);
-    }
-
-    fn strip(&mut self) {
-        let made = &mut self.made;
-        let parts = library::strip(self.format, &made.line, &mut made.strip).expect(GOOD);
-        assert!(parts.iter().all(Result::is_ok), "{GOOD}");
-    }
-
-    fn position(&mut self) -> i32 {
-        let numbers = library::line_numbers(self.format, &self.made.line);
-        numbers.expect(GOOD).position
-    }
-
-    fn hundredths(&mut self) -> u16 {
-        let date = library::date(self.format, &self.made.line);
-        date.expect(GOOD).hundredths.into()
-    }
-
-    fn add_segment(&mut self, block: u8) -> bool {
-        let made = &mut self.made;
-        let b = usize::from(block) - 1;
-        let added = library::add_segment(
-            self.format,
-            &mut made.marks[b],
-            &made.line,
-            block,
-            &mut made.blocks[b],
-        );
-        added.expect(GOOD).first_copy
-    }
-
-    fn write_line(&mut self) -> usize {
-        let made = &mut self.made;
-        library::write_line(self.format, &made.line, &mut made.wire).expect(GOOD)
-    }
-
-    fn put_pixels(&mut self, input: &Input) {
-        for (sector, pixels) in (2..).zip(&input.narrow) {
-            library::put_pixels(self.format, &mut self.made.line, sector, pixels).expect(GOOD);
+macro_rules! decoder {
+    ($decoder:ident, $library:ident) => {
+        pub struct $decoder {
+            format: u8,
+            state: $library::State,
+            made: Made,
         }
-        library::put_pixels_wide(self.format, &mut self.made.line, 12, &input.pixels[10])
-            .expect(GOOD);
-    }
+
+        impl $decoder {
+            pub fn new(format: u8) -> $decoder {
+                $decoder {
+                    format,
+                    state: $library::fresh(),
+                    made: Made::new(),
+                }
+            }
+        }
+
+        impl Decoder for $decoder {
+            fn made(&mut self) -> &mut Made {
+                &mut self.made
+            }
+
+            fn begin(&mut self) {
+                self.state = $library::fresh();
+            }
+
+            fn read(&mut self, piece: &[u8]) -> (usize, bool) {
+                let answer =
+                    $library::read(self.format, &mut self.state, piece, &mut self.made.line);
+                let answer = answer.expect(GOOD);
+                (answer.taken, answer.complete)
+            }
+
+            fn accepted(&mut self, sector: u8) -> bool {
+                $library::accepted(self.format, &self.made.line, sector).is_ok()
+            }
+
+            fn filler(&mut self, sector: u8) -> usize {
+                $library::filler(self.format, &self.made.line, sector).expect(GOOD)
+            }
+
+            fn joined(&mut self, channel: u8) {
+                let made = &mut self.made;
+                $library::joined(self.format, &made.line, channel, &mut made.joined).expect(GOOD);
+            }
+
+            fn strip(&mut self) {
+                let made = &mut self.made;
+                let parts = $library::strip(self.format, &made.line, &mut made.strip).expect(GOOD);
+                assert!(parts.iter().all(Result::is_ok), "{GOOD}");
+            }
+
+            fn position(&mut self) -> i32 {
+                let numbers = $library::line_numbers(self.format, &self.made.line);
+                numbers.expect(GOOD).position
+            }
+
+            fn hundredths(&mut self) -> u16 {
+                let date = $library::date(self.format, &self.made.line);
+                date.expect(GOOD).hundredths.into()
+            }
+
+            fn add_segment(&mut self, block: u8) -> bool {
+                let made = &mut self.made;
+                let b = usize::from(block) - 1;
+                let added = $library::add_segment(
+                    self.format,
+                    &mut made.marks[b],
+                    &made.line,
+                    block,
+                    &mut made.blocks[b],
+                );
+                added.expect(GOOD).first_copy
+            }
+
+            fn write_line(&mut self) -> usize {
+                let made = &mut self.made;
+                $library::write_line(self.format, &made.line, &mut made.wire).expect(GOOD)
+            }
+
+            fn put_pixels(&mut self, input: &Input) {
+                for (sector, pixels) in (2..).zip(&input.narrow) {
+                    $library::put_pixels(self.format, &mut self.made.line, sector, pixels)
+                        .expect(GOOD);
+                }
+                $library::put_pixels_wide(self.format, &mut self.made.line, 12, &input.pixels[10])
+                    .expect(GOOD);
+            }
+        }
+    };
 }
+
+decoder!(Ours, hansobrik);
+#[cfg(feature = "before")]
+decoder!(Before, before);

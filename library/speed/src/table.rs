@@ -1,10 +1,9 @@
 //! The table of works.
 
-use crate::decoder::Decoder;
 use crate::input::Input;
-use crate::ours::Ours;
+use crate::library::{heading, library, over, split};
 use crate::theirs::Theirs;
-use crate::timing::{copy, nanoseconds, QUICK_WORK, SLOW_WORK};
+use crate::timing::{copy, in_turn, QUICK_WORK, SLOW_WORK};
 use crate::work::Work;
 use second::sectors::SECTORS;
 
@@ -34,19 +33,16 @@ fn bytes_in(work: Work, input: &Input) -> usize {
 
 fn row(name: &str, format: u8, work: Work) {
     let input = Input::new(format, 9);
-    let mut ours = Ours::new(format);
-    let mut theirs = Theirs::new(format);
-    ours.made().line.copy_from_slice(&input.line);
-    theirs.made().line.copy_from_slice(&input.line);
-    let sum = work.run(&mut ours, &input);
-    assert_eq!(sum, work.run(&mut theirs, &input), "{name}");
+    let mut works = library(format, QUICK_WORK, work, &input);
+    works.push(over(Theirs::new(format), SLOW_WORK, work, &input));
+    let mut times = in_turn(works);
+    let other = times.pop().expect("the second decoder's");
+    let (mine, before) = split(&times);
 
     let bytes = bytes_in(work, &input);
-    let mine = nanoseconds(QUICK_WORK, || work.run(&mut ours, &input));
-    let other = nanoseconds(SLOW_WORK, || work.run(&mut theirs, &input));
     let copied = copy(bytes);
     println!(
-        "| {name} | {bytes} | {mine:.0} | {:.1} | {other:.0} | {:.1} | {copied:.0} | {:.1} | {:.4} % |",
+        "| {name} | {bytes} | {mine:.0} | {:.1} | {other:.0} | {:.1} | {copied:.0} | {:.1} | {:.4} % |{before}",
         bytes as f64 * 1e3 / mine,
         other / mine,
         mine / copied,
@@ -55,8 +51,10 @@ fn row(name: &str, format: u8, work: Work) {
 }
 
 pub fn print() {
-    println!("| work | bytes | ns | MB/s | second, ns | times ours | copy, ns | ours, in copies | of 600 ms |");
-    println!("|---|---|---|---|---|---|---|---|---|");
+    heading(
+        "| work | bytes | ns | MB/s | second, ns | times ours | copy, ns | ours, in copies | of 600 ms |",
+        " before, ns | before / now |",
+    );
     row(
         "reader, one line in pieces of 4,096 bytes, format 1",
         1,

@@ -1,6 +1,7 @@
 //! The fixed suites: what chance alone would hardly make.
 
 mod blocks;
+pub mod fillers;
 mod recordings;
 mod sets;
 mod sweeps;
@@ -8,13 +9,15 @@ mod sweeps;
 use crate::bench::{Bench, Difference};
 use crate::make::Maker;
 
-/// All of them, so many times, each time with other numbers.
+/// All of them, so many times, each time with other numbers. A run of several
+/// rounds has the time for every bit of every filler, once.
 pub fn run(bench: &mut Bench, maker: &mut Maker, rounds: u64) -> Result<(), Difference> {
-    for _ in 0..rounds {
+    for round in 0..rounds {
         sets::run(bench, maker)?;
         sweeps::run(bench, maker)?;
         recordings::run(bench, maker)?;
         blocks::run(bench, maker)?;
+        fillers::run(bench, maker, round == 1)?;
     }
     Ok(())
 }
