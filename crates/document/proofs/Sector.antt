@@ -7,20 +7,20 @@ use native.Mathlib.Omega.{arith}
 use lib.ListN.{length, getD, take, drop, length-drop}
 use lib.Seq.{length-take-le, getD-take, getD-drop}
 use Rattle.formats.specs.Formats.{lineBytes}
-use Rattle.bits.specs.Bits.{bitsOf, stretch, fieldsOf, Below}
+use Rattle.bits.specs.Bits.{bitsOf, stretch, fieldsOf, Below, part}
 use Rattle.bits.proofs.Below.{below-take, below-drop}
-use Rattle.bits.proofs.Bytes.{bits-drop, bits-take}
+use Rattle.bits.proofs.Bytes.{part-bytes}
 use Rattle.bits.proofs.Fields.{fields-packed}
 use Rattle.sectors.specs.Layout.{sectors, layoutOf}
 use Rattle.sectors.specs.Sector.{dataBitsOf, dataOf}
 use Rattle.document.specs.Place.{docByte, docFrom}
 
 pub doc-data : (line : List ℕ) → Below 256 line → lineBytes ≤ length line → dataOf (layoutOf 1) (bitsOf line) ≡ take 2291 (docFrom line 3)
-unfolding dataOf dataBitsOf stretch layoutOf sectors docFrom bitsOf
+unfolding dataOf dataBitsOf part stretch layoutOf sectors docFrom bitsOf
 doc-data line b long =
     let bytes : List ℕ = take 2291 (drop 2 line) in
     let count : length bytes ≡ 2291 = length-take-le 2291 (drop 2 line) (omega (arith, length-drop 2 line)) in
-    let bits : take 18328 (drop 16 (bitsOf line)) ≡ bitsOf bytes = ap (take 18328) (bits-drop line 2) ∙ bits-take (drop 2 line) 2291 in
+    let bits : take 18328 (drop 16 (bitsOf line)) ≡ bitsOf bytes = part-bytes line 2 2291 in
     ap₂ (λ (k : ℕ) (l : List ℕ). fieldsOf 8 k (l ++ [])) (sym count) bits
     ∙ fields-packed 8 bytes [] (below-take 256 2291 (drop 2 line) (below-drop 256 2 line b))
 
