@@ -42,16 +42,17 @@ _Static_assert(sizeof(size_t) == 8, "hansobrik: the library is made for machines
 /* ---- the version of this header ---- */
 
 #define HANSOBRIK_VERSION_MAJOR 0
-#define HANSOBRIK_VERSION_MINOR 2
+#define HANSOBRIK_VERSION_MINOR 3
 #define HANSOBRIK_VERSION_PATCH 0
 #define HANSOBRIK_VERSION (HANSOBRIK_VERSION_MAJOR * 10000 + HANSOBRIK_VERSION_MINOR * 100 + HANSOBRIK_VERSION_PATCH)
-#define HANSOBRIK_VERSION_TEXT "0.2.0"
+#define HANSOBRIK_VERSION_TEXT "0.3.0"
 
 /* ---- refusal numbers, in the order in which they are tested ---- */
 
 enum {
     HANSOBRIK_OK = 0,                   /* the call was served */
     HANSOBRIK_REFUSED_FORMAT = 1,       /* the format is neither 1 nor 2 */
+    HANSOBRIK_REFUSED_SETTING = 13,     /* the setting of a reader is above 6 */
     HANSOBRIK_REFUSED_STATE = 12,       /* the reader's record, the register or the marks are impossible */
     HANSOBRIK_REFUSED_NUMBER = 4,       /* a sector, channel or block number that the call does not serve;
                                            calibration-2 in format 2 */
@@ -72,6 +73,7 @@ enum {
 enum {
     HANSOBRIK_S_VISSR = 1,             /* the two formats */
     HANSOBRIK_HIRID = 2,
+    HANSOBRIK_LARGEST_SETTING = 6,     /* wrong bits of the tail, of its 64, that a reader may be told to bear */
     HANSOBRIK_LINE_BYTES = 44356,      /* one plain line */
     HANSOBRIK_WIRE_BYTES_1 = 45606,    /* one line on the wire, format 1 */
     HANSOBRIK_WIRE_BYTES_2 = 49500,    /* the same, format 2 */
@@ -277,9 +279,14 @@ hansobrik_state hansobrik_fresh(void);
 /* Reads until a line is complete or the piece is used up; the answer's record is for the next call, and the rest of the piece
  * is offered to it again. A complete line stands in the buffer until a later call finds the next tail. hansobrik_reader, at the
  * end of this file, keeps record and rest together. Needs in line: LINE_BYTES. The piece may have any length, 0 too.
- * Refused: FORMAT, STATE, SHORT_INPUT. */
-hansobrik_read_answer hansobrik_read(uint8_t format, hansobrik_state state, const uint8_t *piece, size_t piece_count,
-                                     uint8_t *line, size_t line_count);
+ *
+ * The setting, 0 to LARGEST_SETTING, is how many bits of the tail may be wrong: the first 64 bits that differ from it in at
+ * most that many places count as the tail. 0 asks for the exact one. Where bits come wrong choose 4: then up to four wrong
+ * bits in any 64 neighbouring bits of SYNC and dummy never cost a line and never make a false one. 5 and 6 bear as many in the
+ * tail, but in any other 64 bits only three and two. The record does not hold the setting: hand in the same one in all calls on
+ * a recording. Refused: FORMAT, SETTING, STATE, SHORT_INPUT. */
+hansobrik_read_answer hansobrik_read(uint8_t format, uint8_t setting, hansobrik_state state, const uint8_t *piece,
+                                     size_t piece_count, uint8_t *line, size_t line_count);
 
 /* One plain line on the wire at the front of out; count is its bytes. Needs in line: LINE_BYTES; in out: WIRE_BYTES_1, in
  * format 2 WIRE_BYTES_2. Refused: FORMAT, SHORT_INPUT, SHORT_OUTPUT. */
@@ -426,6 +433,7 @@ hansobrik_refusal_words(uint8_t number)
     switch (number) {
     case HANSOBRIK_OK: return "the call was served";
     case HANSOBRIK_REFUSED_FORMAT: return "the format is neither 1 nor 2";
+    case HANSOBRIK_REFUSED_SETTING: return "the setting of a reader is above 6";
     case HANSOBRIK_REFUSED_STATE: return "the reader's record, the register or the marks are impossible";
     case HANSOBRIK_REFUSED_NUMBER:
         return "a sector, channel or block number that the call does not serve; calibration-2 in format 2";
@@ -444,9 +452,9 @@ hansobrik_refusal_words(uint8_t number)
     }
 }
 
-/* A reader that hands its record on by itself and keeps the rest of the piece:
+/* A reader that hands its record and its setting on by itself and keeps the rest of the piece:
  *
- *     hansobrik_reader reader = hansobrik_reader_fresh(HANSOBRIK_S_VISSR);
+ *     hansobrik_reader reader = hansobrik_reader_fresh(HANSOBRIK_S_VISSR, 0);
  *     (for each piece)
  *         hansobrik_reader_offer(&reader, piece, count);
  *         while (hansobrik_reader_line(&reader, line, sizeof line))
@@ -460,18 +468,20 @@ typedef struct {
     const uint8_t *rest;   /* of the piece: the bytes that are not taken yet */
     size_t rest_count;
     uint8_t format;
+    uint8_t setting;       /* as hansobrik_read takes it, the same for the whole recording */
     uint8_t refused;       /* of the last hansobrik_reader_line: OK, or why it gave no line */
 } hansobrik_reader;
 
 /* A reader before a recording's first bit, without a piece. */
 static inline hansobrik_reader
-hansobrik_reader_fresh(uint8_t format)
+hansobrik_reader_fresh(uint8_t format, uint8_t setting)
 {
     hansobrik_reader reader;
     reader.state = hansobrik_fresh();
     reader.rest = NULL;
     reader.rest_count = 0;
     reader.format = format;
+    reader.setting = setting;
     reader.refused = HANSOBRIK_OK;
     return reader;
 }
@@ -495,7 +505,7 @@ static inline bool
 hansobrik_reader_line(hansobrik_reader *reader, uint8_t *line, size_t line_count)
 {
     hansobrik_read_answer answer =
-        hansobrik_read(reader->format, reader->state, reader->rest, reader->rest_count, line, line_count);
+        hansobrik_read(reader->format, reader->setting, reader->state, reader->rest, reader->rest_count, line, line_count);
     reader->refused = answer.refused;
     reader->state = answer.state;
     if (answer.taken > 0)

@@ -401,7 +401,7 @@ static void call(uint64_t which, size_t buffer_count)
     case PUT_SYNC: say_count(hansobrik_put_sync(u8(0), lent(0), count(0))); break;
 
     case FRESH: say_state(hansobrik_fresh()); break;
-    case READ: say_read(hansobrik_read(u8(0), state(1), seen(0), count(0), lent(1), count(1))); break;
+    case READ: say_read(hansobrik_read(u8(0), u8(1), state(2), seen(0), count(0), lent(1), count(1))); break;
     case WRITE_LINE: say_count(hansobrik_write_line(u8(0), seen(0), count(0), lent(1), count(1))); break;
 
     case ACCEPTED: say(hansobrik_accepted(u8(0), seen(0), count(0), u8(1))); break;

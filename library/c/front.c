@@ -36,15 +36,15 @@ static void version(void)
     expect(strcmp(text, HANSOBRIK_VERSION_TEXT) == 0, "the version's text is the archive's number", number);
 }
 
-/* 0 to 12 have words of their own, and all the others the same ones. */
+/* 0 to 13 have words of their own, and all the others the same ones. */
 static void words(void)
 {
     const char *unknown = hansobrik_refusal_words(255);
     for (unsigned number = 0; number <= 255; number++) {
         const char *said = hansobrik_refusal_words((uint8_t)number);
         expect(said[0] != '\0', "a refusal has words", number);
-        expect((strcmp(said, unknown) == 0) == (number > 12), "the twelve refusals and 0 have words, no other number", number);
-        for (unsigned other = 0; other < number && number <= 12; other++)
+        expect((strcmp(said, unknown) == 0) == (number > 13), "0 and the thirteen refusals have words, no other has", number);
+        for (unsigned other = 0; other < number && number <= 13; other++)
             expect(strcmp(said, hansobrik_refusal_words((uint8_t)other)) != 0, "two refusals have other words", number);
     }
 }
@@ -162,15 +162,19 @@ static void block_sizes(uint8_t f)
     }
 }
 
-/* Lines that differ, written one after the other, and all of it some bits late, so that no line begins or ends at a byte. */
-static void make_recording(uint8_t format, unsigned late)
+/* Lines that differ, written one after the other, and all of it some bits late, so that no line begins or ends at a byte. Each
+ * tail, the last 64 bits of SYNC, has so many wrong bits. */
+static void make_recording(uint8_t format, unsigned late, uint8_t wrong)
 {
+    size_t tail = (format == HANSOBRIK_S_VISSR ? HANSOBRIK_SYNC_BYTES_1 : HANSOBRIK_SYNC_BYTES_2) - 8;
     recorded = 0;
     for (unsigned i = 0; i < LINES; i++) {
         make_line(format, 0, 0, (uint8_t)(i + 1), sent[i]);
         hansobrik_count_answer written =
             hansobrik_write_line(format, sent[i], sizeof sent[i], aligned + recorded, sizeof aligned - recorded);
         expect(written.refused == HANSOBRIK_OK, "a line is written", i);
+        for (uint8_t bit = 0; bit < wrong; bit++)
+            aligned[recorded + tail + bit] ^= 1;
         recorded += written.count;
     }
     aligned[recorded++] = 0;
@@ -181,12 +185,13 @@ static void make_recording(uint8_t format, unsigned late)
 }
 
 /* The record after the whole recording by the calls alone, in one piece; and the lines are those sent. */
-static hansobrik_state plainly(uint8_t format)
+static hansobrik_state plainly(uint8_t format, uint8_t setting)
 {
     hansobrik_state state = hansobrik_fresh();
     unsigned lines = 0;
     for (size_t at = 0; at < recorded;) {
-        hansobrik_read_answer answer = hansobrik_read(format, state, recording + at, recorded - at, line, sizeof line);
+        hansobrik_read_answer answer =
+            hansobrik_read(format, setting, state, recording + at, recorded - at, line, sizeof line);
         at += answer.taken;
         state = answer.state;
         if (answer.complete && lines < LINES)
@@ -198,9 +203,9 @@ static hansobrik_state plainly(uint8_t format)
 }
 
 /* The same by hansobrik_reader, in pieces of this length. */
-static void in_pieces(uint8_t format, size_t length)
+static void in_pieces(uint8_t format, uint8_t setting, size_t length)
 {
-    hansobrik_reader reader = hansobrik_reader_fresh(format);
+    hansobrik_reader reader = hansobrik_reader_fresh(format, setting);
     unsigned lines = 0;
     bool taken = true;
     for (size_t at = 0; at < recorded && taken; at += length) {
@@ -214,14 +219,31 @@ static void in_pieces(uint8_t format, size_t length)
     }
     expect(taken, "every piece is taken", (unsigned)length);
     expect(lines == LINES, "the reader gives every line", (unsigned)length);
-    hansobrik_state after = plainly(format);
+    hansobrik_state after = plainly(format, setting);
     expect(memcmp(&reader.state, &after, sizeof after) == 0, "the reader's record is that of the calls", (unsigned)length);
+}
+
+/* A reader hands its setting on: with as many wrong bits in each tail it gives every line, and one that bears one less gives
+ * none. Above 6 it is refused, without a piece too. */
+static void settings(uint8_t format)
+{
+    for (uint8_t setting = 1; setting <= HANSOBRIK_LARGEST_SETTING; setting++) {
+        make_recording(format, format + 1u, setting);
+        in_pieces(format, setting, 1000);
+        hansobrik_reader less = hansobrik_reader_fresh(format, (uint8_t)(setting - 1));
+        expect(hansobrik_reader_offer(&less, recording, recorded), "a fresh reader takes a piece", setting);
+        expect(!hansobrik_reader_line(&less, line, sizeof line), "a tail with too many wrong bits is none", setting);
+        expect(less.refused == HANSOBRIK_OK && less.rest_count == 0, "and the whole piece is read", setting);
+    }
+    hansobrik_reader reader = hansobrik_reader_fresh(format, HANSOBRIK_LARGEST_SETTING + 1);
+    expect(!hansobrik_reader_line(&reader, line, sizeof line), "an unknown setting is refused", reader.setting);
+    expect(reader.refused == HANSOBRIK_REFUSED_SETTING, "with its number", reader.refused);
 }
 
 /* A piece with a rest stands, whatever is offered meanwhile or refused; nothing of it is lost. */
 static void rests(uint8_t format)
 {
-    hansobrik_reader reader = hansobrik_reader_fresh(format);
+    hansobrik_reader reader = hansobrik_reader_fresh(format, 0);
     expect(!hansobrik_reader_line(&reader, line, sizeof line), "without a piece there is no line", format);
     expect(reader.refused == HANSOBRIK_OK, "and no refusal", format);
     expect(hansobrik_reader_offer(&reader, recording, recorded), "the first piece is taken", format);
@@ -240,7 +262,7 @@ static void rests(uint8_t format)
     expect(reader.rest_count == 0, "the piece is used up", format);
     expect(hansobrik_reader_offer(&reader, recording, recorded), "then the next one is taken", format);
 
-    reader = hansobrik_reader_fresh(3);
+    reader = hansobrik_reader_fresh(3, 0);
     expect(hansobrik_reader_offer(&reader, recording, recorded), "a fresh reader takes a piece", 3);
     expect(!hansobrik_reader_line(&reader, line, sizeof line), "an unknown format is refused", 3);
     expect(reader.refused == HANSOBRIK_REFUSED_FORMAT, "with its number", reader.refused);
@@ -255,10 +277,11 @@ int main(void)
     for (uint8_t format = HANSOBRIK_S_VISSR; format <= HANSOBRIK_HIRID; format++) {
         sector_sizes(format);
         block_sizes(format);
-        make_recording(format, format + 1u);
+        make_recording(format, format + 1u, 0);
         for (size_t i = 0; i < sizeof lengths / sizeof lengths[0]; i++)
-            in_pieces(format, lengths[i]);
+            in_pieces(format, 0, lengths[i]);
         rests(format);
+        settings(format);
     }
     if (failures > 0)
         return 1;

@@ -1,8 +1,8 @@
-/* listing [-2] [FILE]: the lines of the recording FILE, or of standard input where FILE is - or none is named, in format 1 or
- * with -2 in format 2. For each line it writes `line N good G filler F`: N counts from 1, G are the accepted ones of the twelve
- * sectors, F the filler bits that are set in all of them. At the end it writes `total N`, and where the recording stops inside
- * a line it says so on standard error. Status 2 for other words; 1 where the recording cannot be read or the listing not be
- * written, and then there is no `total`.
+/* listing [-2] [-s K] [FILE]: the lines of the recording FILE, or of standard input where FILE is - or none is named, in format
+ * 1 or with -2 in format 2, read with the setting K, 0 to 6, or else 0. For each line it writes `line N good G filler F`: N
+ * counts from 1, G are the accepted ones of the twelve sectors, F the filler bits that are set in all of them. At the end it
+ * writes `total N`, and where the recording stops inside a line it says so on standard error. Status 2 for other words; 1 where
+ * the recording cannot be read or the listing not be written, and then there is no `total`.
  *
  * One line buffer and one piece are all its memory, however long the recording is. */
 #include "hansobrik.h"
@@ -37,9 +37,9 @@ static int fail(const char *where, const char *what)
     return 1;
 }
 
-static int list(uint8_t format, FILE *recording, const char *name)
+static int list(uint8_t format, uint8_t setting, FILE *recording, const char *name)
 {
-    hansobrik_reader reader = hansobrik_reader_fresh(format);
+    hansobrik_reader reader = hansobrik_reader_fresh(format, setting);
     unsigned long lines = 0;
     size_t count;
     while ((count = fread(piece, 1, sizeof piece, recording)) > 0) {
@@ -60,26 +60,34 @@ static int list(uint8_t format, FILE *recording, const char *name)
     return 0;
 }
 
+/* Whether the word is a setting: one digit from 0 to 6. */
+static bool is_setting(const char *word)
+{
+    return word != NULL && word[0] >= '0' && word[0] <= '0' + HANSOBRIK_LARGEST_SETTING && word[1] == '\0';
+}
+
 int main(int argc, char **argv)
 {
-    uint8_t format = HANSOBRIK_S_VISSR;
+    uint8_t format = HANSOBRIK_S_VISSR, setting = 0;
     const char *name = NULL;
     for (int i = 1; i < argc; i++) {
         if (strcmp(argv[i], "-2") == 0) {
             format = HANSOBRIK_HIRID;
+        } else if (strcmp(argv[i], "-s") == 0 && is_setting(argv[i + 1])) {
+            setting = (uint8_t)(argv[++i][0] - '0');
         } else if (name == NULL && (argv[i][0] != '-' || argv[i][1] == '\0')) {
             name = argv[i];
         } else {
-            fprintf(stderr, "usage: listing [-2] [FILE]\n");
+            fprintf(stderr, "usage: listing [-2] [-s K] [FILE]\n");
             return 2;
         }
     }
     if (name == NULL || strcmp(name, "-") == 0)
-        return list(format, stdin, "standard input");
+        return list(format, setting, stdin, "standard input");
     FILE *recording = fopen(name, "rb");
     if (recording == NULL)
         return fail(name, strerror(errno));
-    int status = list(format, recording, name);
+    int status = list(format, setting, recording, name);
     fclose(recording);
     return status;
 }

@@ -1,5 +1,5 @@
 /* Wrong libraries, for library/harness/faults: FAULT says which. Each has one call that does as the library's, but for one
- * thing; the call is handed on under the name `wrong`. FAULT 0 is none. */
+ * thing; the call is handed on under the name `wrong`. FAULT 0 has none. */
 /* calls.c asks for it, and this file comes first */
 #define _DEFAULT_SOURCE
 
@@ -10,6 +10,7 @@
 #undef _DEFAULT_SOURCE
 
 #define BYTES const uint8_t *p, size_t c
+#define READING uint8_t f, uint8_t k, hansobrik_state s, BYTES, uint8_t *o, size_t d
 
 /* For wrong fillers, what a count by words is made of: the bits up to a byte edge, words of eight bytes, the rest. */
 static inline size_t filler_end(uint8_t s)
@@ -31,7 +32,96 @@ static inline size_t ones(const uint8_t *p, size_t from, size_t to)
     return count;
 }
 
-#if FAULT == 1 /* 2,048 set filler bits are counted as one less */
+/* For wrong searches: the last 64 bits since the start, so many of them, and how many bits were read to get there. */
+#define TAIL UINT64_C(0x4BBBB99995557FFF)
+struct window {
+    uint64_t bits;
+    size_t count;
+    size_t end;
+};
+typedef bool rule(struct window w, uint8_t k);
+
+static inline int apart(uint64_t a, uint64_t b)
+{
+    int count = 0;
+    for (uint64_t x = a ^ b; x != 0; x &= x - 1)
+        count++;
+    return count;
+}
+
+/* The rules: the right one, and that of document 01. */
+static inline bool near_tail(struct window w, uint8_t k) { return w.count == 64 && apart(w.bits, TAIL) <= k; }
+static inline bool exact_tail(struct window w, uint8_t k) { (void)k; return near_tail(w, 0); }
+
+/* The bit that is read after i others: of the unread ones, then of the piece. */
+static inline uint8_t bit_at(hansobrik_state s, const uint8_t *p, size_t i)
+{
+    if (i < s.unread_count)
+        return (uint8_t)(s.unread >> (s.unread_count - 1 - i) & 1);
+    i -= s.unread_count;
+    return (uint8_t)(p[i / 8] >> (7 - i % 8) & 1);
+}
+
+/* The first window by a rule; one with the end 0 is none. */
+static inline struct window first(rule counts, uint8_t k, hansobrik_state s, BYTES)
+{
+    struct window w = {s.search, s.search_count, 0};
+    while (w.end < s.unread_count + 8 * c) {
+        w.bits = w.bits << 1 | bit_at(s, p, w.end++);
+        w.count += w.count < 64;
+        if (counts(w, k))
+            return w;
+    }
+    w.end = 0;
+    return w;
+}
+
+/* The library's reader in a line that begins behind a window, with this register. */
+static inline hansobrik_read_answer behind(struct window w, uint16_t r, READING)
+{
+    hansobrik_state in = hansobrik_fresh();
+    in.in_line = 1;
+    in.register_ = r;
+    size_t i = w.end;
+    for (; i < s.unread_count || (i - s.unread_count) % 8 != 0; i++) {
+        hansobrik_step_answer step = hansobrik_stepped(in.register_);
+        in.register_ = step.register_;
+        in.waiting = (uint8_t)(in.waiting << 1 | (bit_at(s, p, i) ^ step.bit));
+        in.waiting_count++;
+        in.position++;
+    }
+    size_t taken = (i - s.unread_count) / 8;
+    hansobrik_read_answer a = hansobrik_read(f, k, in, p + taken, c - taken, o, d);
+    a.taken += taken;
+    return a;
+}
+
+/* Whether there is a search in this call at all. */
+static inline bool searches(READING)
+{
+    return !s.in_line && c > 0 && !hansobrik_read(f, k, s, p, 0, o, d).refused;
+}
+
+/* The reader with another rule: the search is made here, the rest is the library's. */
+static inline hansobrik_read_answer by_rule(rule counts, READING)
+{
+    if (!searches(f, k, s, p, c, o, d))
+        return hansobrik_read(f, k, s, p, c, o, d);
+    struct window w = first(counts, k, s, p, c);
+    if (w.end != 0)
+        return behind(w, 0x7FFF, f, k, s, p, c, o, d);
+    hansobrik_read_answer a = hansobrik_read(f, k, s, p, 0, o, d);
+    a.taken = c;
+    a.state = hansobrik_fresh();
+    a.state.search_count = (uint8_t)(w.count < 63 ? w.count : 63);
+    a.state.search = w.bits & UINT64_MAX >> (64 - a.state.search_count);
+    return a;
+}
+
+#if FAULT == 0 /* none, with the search made here: by the right rule it is the library's */
+static hansobrik_read_answer right(READING) { return by_rule(near_tail, f, k, s, p, c, o, d); }
+#define hansobrik_read right
+#elif FAULT == 1 /* 2,048 set filler bits are counted as one less */
 static hansobrik_count_answer wrong(uint8_t f, BYTES, uint8_t s)
 {
     hansobrik_count_answer a = hansobrik_filler(f, p, c, s);
@@ -76,9 +166,9 @@ static hansobrik_add_answer wrong(uint8_t f, uint32_t k, BYTES, uint8_t n, uint8
 }
 #define hansobrik_add_segment wrong
 #elif FAULT == 6 /* a refused read gives a fresh record */
-static hansobrik_read_answer wrong(uint8_t f, hansobrik_state s, BYTES, uint8_t *o, size_t d)
+static hansobrik_read_answer wrong(READING)
 {
-    hansobrik_read_answer a = hansobrik_read(f, s, p, c, o, d);
+    hansobrik_read_answer a = hansobrik_read(f, k, s, p, c, o, d);
     if (a.refused)
         a.state = hansobrik_fresh();
     return a;
@@ -121,11 +211,11 @@ static hansobrik_strip_answer wrong(uint8_t f, BYTES, uint8_t *o, size_t d)
 }
 #define hansobrik_strip wrong
 #elif FAULT == 11 /* the flag 255 is taken for 1 */
-static hansobrik_read_answer wrong(uint8_t f, hansobrik_state s, BYTES, uint8_t *o, size_t d)
+static hansobrik_read_answer wrong(READING)
 {
     if (s.in_line == 255)
         s.in_line = 1;
-    return hansobrik_read(f, s, p, c, o, d);
+    return hansobrik_read(f, k, s, p, c, o, d);
 }
 #define hansobrik_read wrong
 #elif FAULT == 12 /* of two sectors that are not accepted the lower one answers */
@@ -157,18 +247,18 @@ static uint8_t wrong(uint8_t f, uint8_t *p, size_t c, uint8_t s, const uint16_t 
 }
 #define hansobrik_put_pixels_wide wrong
 #elif FAULT == 15 /* an empty piece tidies the record */
-static hansobrik_read_answer wrong(uint8_t f, hansobrik_state s, BYTES, uint8_t *o, size_t d)
+static hansobrik_read_answer wrong(READING)
 {
-    hansobrik_read_answer a = hansobrik_read(f, s, p, c, o, d);
+    hansobrik_read_answer a = hansobrik_read(f, k, s, p, c, o, d);
     if (!a.refused && c == 0 && !s.in_line)
         a.state.position = 0;
     return a;
 }
 #define hansobrik_read wrong
 #elif FAULT == 16 /* the buffer changes a byte early: waiting bits are put down */
-static hansobrik_read_answer wrong(uint8_t f, hansobrik_state s, BYTES, uint8_t *o, size_t d)
+static hansobrik_read_answer wrong(READING)
 {
-    hansobrik_read_answer a = hansobrik_read(f, s, p, c, o, d);
+    hansobrik_read_answer a = hansobrik_read(f, k, s, p, c, o, d);
     if (!a.refused && a.state.in_line && a.state.waiting_count == 7)
         o[a.state.position / 8] = (uint8_t)(a.state.waiting << 1);
     return a;
@@ -283,4 +373,57 @@ static hansobrik_count_answer wrong(uint8_t f, BYTES, uint8_t s)
     return a;
 }
 #define hansobrik_filler wrong
+#elif FAULT == 29 /* a tail with fewer wrong bits than the setting, not with as many */
+static bool fewer(struct window w, uint8_t k) { return w.count == 64 && apart(w.bits, TAIL) < k; }
+static hansobrik_read_answer wrong(READING) { return by_rule(fewer, f, k, s, p, c, o, d); }
+#define hansobrik_read wrong
+#elif FAULT == 30 /* only the low 32 bits of a window are compared */
+static bool low(struct window w, uint8_t k)
+{
+    return w.count == 64 && apart(w.bits & UINT32_MAX, TAIL & UINT32_MAX) <= k;
+}
+static hansobrik_read_answer wrong(READING) { return by_rule(low, f, k, s, p, c, o, d); }
+#define hansobrik_read wrong
+#elif FAULT == 31 /* setting 7 is served */
+static hansobrik_read_answer wrong(READING) { return hansobrik_read(f, k == 7 ? 6 : k, s, p, c, o, d); }
+#define hansobrik_read wrong
+#elif FAULT == 32 /* 12 tested before 13 */
+static hansobrik_read_answer wrong(READING)
+{
+    hansobrik_read_answer a = hansobrik_read(f, 0, s, p, 0, o, d);
+    return a.refused == 12 ? a : hansobrik_read(f, k, s, p, c, o, d);
+}
+#define hansobrik_read wrong
+#elif FAULT == 33 /* waits for an exact window past a near one */
+static hansobrik_read_answer wrong(READING)
+{
+    bool exact = searches(f, k, s, p, c, o, d) && first(exact_tail, k, s, p, c).end != 0;
+    return by_rule(exact ? exact_tail : near_tail, f, k, s, p, c, o, d);
+}
+#define hansobrik_read wrong
+#elif FAULT == 34 /* the register is the window's last fifteen bits */
+static hansobrik_read_answer wrong(READING)
+{
+    struct window w = {0, 0, 0};
+    if (searches(f, k, s, p, c, o, d))
+        w = first(near_tail, k, s, p, c);
+    return w.end == 0 ? hansobrik_read(f, k, s, p, c, o, d) : behind(w, (uint16_t)(w.bits & 0x7FFF), f, k, s, p, c, o, d);
+}
+#define hansobrik_read wrong
+#elif FAULT == 35 /* fewer than 64 bits since the start count, those before it as 0 */
+static bool padded(struct window w, uint8_t k) { return apart(w.bits, TAIL) <= k; }
+static hansobrik_read_answer wrong(READING) { return by_rule(padded, f, k, s, p, c, o, d); }
+#define hansobrik_read wrong
+#elif FAULT == 36 /* an empty piece is served at every setting */
+static hansobrik_read_answer wrong(READING) { return hansobrik_read(f, c == 0 ? 0 : k, s, p, c, o, d); }
+#define hansobrik_read wrong
+#elif FAULT == 37 /* 13 tested before 1 */
+static hansobrik_read_answer wrong(READING)
+{
+    hansobrik_read_answer a = hansobrik_read(f, k, s, p, c, o, d);
+    if (a.refused == 1 && k > 6)
+        a.refused = 13;
+    return a;
+}
+#define hansobrik_read wrong
 #endif

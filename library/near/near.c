@@ -9,7 +9,7 @@ void *far_fresh(hansobrik_state *out);
 void *far_elements(hansobrik_orbit_answer *out, uint8_t format, uint32_t marks, const uint8_t *block, size_t block_count);
 
 /* near.ll */
-void near_read(hansobrik_read_answer *out, uint8_t format, const hansobrik_state *state, const uint8_t *piece,
+void near_read(hansobrik_read_answer *out, uint8_t format, uint8_t setting, const hansobrik_state *state, const uint8_t *piece,
                size_t piece_count, uint8_t *line, size_t line_count);
 void near_read_f64(hansobrik_float_answer *out, const uint8_t *bytes, size_t bytes_count, size_t n, uint8_t m);
 void near_f64_field(hansobrik_float_answer *out, uint8_t format, const uint8_t *line, size_t line_count, size_t place,
@@ -37,10 +37,10 @@ hansobrik_orbit_answer hansobrik_elements(uint8_t format, uint32_t marks, const 
     return out;
 }
 
-hansobrik_read_answer hansobrik_read(uint8_t format, hansobrik_state state, const uint8_t *piece, size_t piece_count,
-                                     uint8_t *line, size_t line_count) {
+hansobrik_read_answer hansobrik_read(uint8_t format, uint8_t setting, hansobrik_state state, const uint8_t *piece,
+                                     size_t piece_count, uint8_t *line, size_t line_count) {
     hansobrik_read_answer out;
-    near_read(&out, format, &state, piece, piece_count, line, line_count);
+    near_read(&out, format, setting, &state, piece, piece_count, line, line_count);
     return out;
 }
 

@@ -2,14 +2,14 @@
 ; by value on the stack and a pair of a word and a double comes back in two kinds of register; only LLVM's own language can
 ; ask for the same on another processor.
 
-declare ptr @far_read(ptr, i8, ptr byval([24 x i8]) align 8, ptr, i64, ptr, i64)
+declare ptr @far_read(ptr, i8, i8, ptr byval([24 x i8]) align 8, ptr, i64, ptr, i64)
 declare { i64, double } @far_read_f64(ptr, i64, i64, i8)
 declare { i64, double } @far_f64_field(i8, ptr, i64, i64, i64, i8)
 declare { i64, double } @far_albedo_f64(i8, i32, ptr, i64, i8, i16)
 declare { i64, double } @far_temperature_f64(i8, i32, ptr, i64, i8, i16)
 
-define void @near_read(ptr %out, i8 %format, ptr %state, ptr %piece, i64 %piece_count, ptr %line, i64 %line_count) {
-  %r = call ptr @far_read(ptr %out, i8 %format, ptr byval([24 x i8]) align 8 %state, ptr %piece, i64 %piece_count, ptr %line, i64 %line_count)
+define void @near_read(ptr %out, i8 %format, i8 %setting, ptr %state, ptr %piece, i64 %piece_count, ptr %line, i64 %line_count) {
+  %r = call ptr @far_read(ptr %out, i8 %format, i8 %setting, ptr byval([24 x i8]) align 8 %state, ptr %piece, i64 %piece_count, ptr %line, i64 %line_count)
   ret void
 }
 

@@ -4,27 +4,28 @@
 use libc::STDERR_FILENO;
 use libc::STDOUT_FILENO;
 use words::Asked;
+use words::Takes;
 
 // The word at a place of the command line, heard. One that is too long for a word of any kind is not served.
-fn listened(a: Asked, place: usize, most: usize) -> Asked {
+fn listened(a: Asked, place: usize, t: Takes) -> Asked {
     let mut text = io::buffer();
     let n = os::arg(place, &mut text);
     if os::errno() != 0 {
         return words::unserved(a, place);
     }
-    words::heard(a, place, words::word_of(&text[..n]), most)
+    words::heard(a, place, words::word_of(a.awaits, &text[..n]), t)
 }
 
-// All words of the command line, for a program that takes at most so many names.
-pub fn asked_for(most: usize) -> Asked {
+// All words of the command line, by what a program takes.
+pub fn asked_for(t: Takes) -> Asked {
     let count = os::arg_count();
     let mut a = words::nothing();
     let mut place: usize = 1;
     while place < count {
-        a = listened(a, place, most);
+        a = listened(a, place, t);
         place += 1;
     }
-    a
+    words::closed(a)
 }
 
 // What is wrong with the words, and the usage text, on standard error.
@@ -64,4 +65,14 @@ pub fn number_at(place: usize, otherwise: u64) -> u64 {
     let mut text = io::buffer();
     let n = os::arg(place, &mut text);
     words::number(&text[..n])
+}
+
+// The setting at a place, 0 where there is no word; 7 where the word is no setting.
+pub fn setting_at(place: usize) -> u8 {
+    if place == 0 {
+        return 0;
+    }
+    let mut text = io::buffer();
+    let n = os::arg(place, &mut text);
+    words::setting_of(&text[..n])
 }

@@ -57,18 +57,18 @@ module _ (was : List ℕ) where
   abbrev pub Ended : Bench → ℕ → ℕ → Type 0
   Ended s n v = (s .0 ≡ seeking 0 0) × (drop 44356 (s .1) ≡ drop 44356 was)
 
-  kept-on : (g : Phase) (buf : List ℕ) (b : ℕ) → completes lineBytes g b ≡ false → Kept g buf → Kept (phaseNext 64 isTail lineBytes g b) (bufferNext g b buf)
+  kept-on : (setting : ℕ) (g : Phase) (buf : List ℕ) (b : ℕ) → completes lineBytes g b ≡ false → Kept g buf → Kept (phaseNext 64 (isTail setting) lineBytes g b) (bufferNext g b buf)
   unfolding completes phaseNext bufferNext
-  kept-on (seeking c w) buf b e h = go (ltb (suc c) 64) (isTail (digits 64 (w * 2 + b)))
+  kept-on setting (seeking c w) buf b e h = go (ltb (suc c) 64) (isTail setting (digits 64 (w * 2 + b)))
     where
       go : (x y : Bool) → Kept (cond x (seeking (suc c) (w * 2 + b)) (cond y (within 0 fifteenOnes 0) (seeking c ((w * 2 + b) % 2 ^ c)))) buf
       go true y = h
       go false true = h
       go false false = h
-  kept-on (within p r q) buf b e h = rw e (kept-store p (q * 2 + plainBit p r b) buf (eqb (p % 8) 7) h refl)
+  kept-on setting (within p r q) buf b e h = rw e (kept-store p (q * 2 + plainBit p r b) buf (eqb (p % 8) 7) h refl)
 
-  pub holds-on : (s : Bench) (b : ℕ) → b < 2 → doneOf s b ≡ false → Holds s → Holds (stepOf s b)
-  holds-on s b h e i = (fit-next (s .0) b h (i .0), kept-on (s .0) (s .1) b e (i .1))
+  pub holds-on : (setting : ℕ) (s : Bench) (b : ℕ) → b < 2 → doneOf s b ≡ false → Holds s → Holds (stepOf setting s b)
+  holds-on setting s b h e i = (fit-next setting (s .0) b h (i .0), kept-on setting (s .0) (s .1) b e (i .1))
 
   pub holds-rest : (s : Bench) → Holds s → Used s 0 0
   holds-rest s i = (i .1, i .0)
@@ -81,11 +81,11 @@ module _ (was : List ℕ) where
       let z : suc p / 8 ≡ 44356 = omega (arith, f .0) in
       rw z at (kept-store p (q * 2 + plainBit p r b) buf (eqb (p % 8) 7) h refl)
 
-  pub holds-stop : (s : Bench) (b : ℕ) → b < 2 → doneOf s b ≡ true → Holds s → (n v : ℕ) → n ≤ 7 → v < 2 ^ n → Ended (stepOf s b) n v
-  holds-stop s b h e i n v l w = (after-line 64 isTail lineBytes (s .0) b e, kept-stop (s .0) (s .1) b e (i .0) (i .1))
+  pub holds-stop : (setting : ℕ) (s : Bench) (b : ℕ) → b < 2 → doneOf s b ≡ true → Holds s → (n v : ℕ) → n ≤ 7 → v < 2 ^ n → Ended (stepOf setting s b) n v
+  holds-stop setting s b h e i n v l w = (after-line 64 (isTail setting) lineBytes (s .0) b e, kept-stop (s .0) (s .1) b e (i .0) (i .1))
 
-  abbrev pub Leaves : Call Bench → Type 0
-  Leaves c = Gives stepOf doneOf Holds Used Ended holds-on holds-rest holds-stop c
+  abbrev pub Leaves : ℕ → Call Bench → Type 0
+  Leaves setting c = Gives (stepOf setting) doneOf Holds Used Ended (holds-on setting) holds-rest (holds-stop setting) c
 
   holds-first : (g : Phase) → Kept g was
   holds-first (seeking c w) = refl
@@ -98,11 +98,11 @@ fit-state s f = go (s .«in_line») refl
     go true e = (f .place, f .fifteen, rw (counts-true-in s e (f .counts) .0) at (f .held))
     go false e = (f .count, f .remembered)
 
-leaves-call : (s : State) (p buf : List ℕ) → possibleOf s ≡ true → Leaves buf (callOf s p buf)
+leaves-call : (setting : ℕ) (s : State) (p buf : List ℕ) → possibleOf s ≡ true → Leaves buf setting (callOf setting s p buf)
 unfolding callOf
-leaves-call s p buf h =
+leaves-call setting s p buf h =
     let f = facts s h in
-    gives-call stepOf doneOf (Holds buf) (Used buf) (Ended buf) (holds-on buf) (holds-rest buf) (holds-stop buf) p (phaseOf s, buf)
+    gives-call (stepOf setting) doneOf (Holds buf) (Used buf) (Ended buf) (holds-on buf setting) (holds-rest buf) (holds-stop buf setting) p (phaseOf s, buf)
     (s .«unread_count») (s .unread) (omega (arith, f .seven)) (fit-state s f, holds-first buf (phaseOf s)) (holds-first buf (phaseOf s), fit-state s f)
 
 -- ---- of the public call
@@ -116,8 +116,8 @@ KeepsBy s buf (Line t s′) after = (s′ .«in_line» ≡ false) × (drop 44356
 
 -- FOR EVERY INPUT: a refusal leaves the buffer as it was; so does a call that ends between lines without a line; one that
 -- ends in a line has changed only bytes whose eight bits are in; a line complete leaves the bytes past it
-pub keeps : (f : ℕ) (s : State) (p buf : List ℕ) → KeepsBy s buf (readAnswer f s p buf) (readLeft f s p buf)
-keeps f s p buf = read-cases f s p buf (KeepsBy s buf) (λ n h. refl) (λ h e. (λ i. refl, λ i. refl)) (λ h m l. go (callOf s p buf) (leaves-call s p buf h))
+pub keeps : (f setting : ℕ) (s : State) (p buf : List ℕ) → KeepsBy s buf (readAnswer f setting s p buf) (readLeft f setting s p buf)
+keeps f setting s p buf = read-cases f setting s p buf (KeepsBy s buf) (λ n h. refl) (λ h e. (λ i. refl, λ i. refl)) (λ h m l. go (callOf setting s p buf) (leaves-call setting s p buf h))
   where
     used : (g : Phase) (n v t : ℕ) (after : List ℕ) → Kept buf g after → KeepsBy s buf (More t (stateOf g n v)) after
     used (seeking c w) n v t after k = (λ i. k, λ i. absurd (false≢true i))
@@ -126,47 +126,47 @@ keeps f s p buf = read-cases f s p buf (KeepsBy s buf) (λ n h. refl) (λ h e. (
     ended : (g : Phase) (n v t : ℕ) (after : List ℕ) → g ≡ seeking 0 0 → drop 44356 after ≡ drop 44356 buf → KeepsBy s buf (Line t (stateOf g n v)) after
     ended g n v t after e k = rw e (refl, k)
 
-    go : (c : Call Bench) → Leaves buf c → KeepsBy s buf (callAnswer c) (callLeft c)
+    go : (c : Call Bench) → Leaves buf setting c → KeepsBy s buf (callAnswer c) (callLeft c)
     go (more t b n v) k = used (b .0) n v t (b .1) (k .0)
     go (whole t b n v) k = ended (b .0) n v t (b .1) (k .0) (k .1)
 
 -- FOR EVERY INPUT: a buffer keeps its bytes past the line
-pub past-keeps : (f : ℕ) (s : State) (p buf : List ℕ) → drop 44356 (readLeft f s p buf) ≡ drop 44356 buf
-past-keeps f s p buf =
-    read-cases f s p buf (λ (a : Answer) (b : List ℕ). drop 44356 b ≡ drop 44356 buf) (λ n h. refl) (λ h e. refl)
-    (λ h m l. go (callOf s p buf) (leaves-call s p buf h))
+pub past-keeps : (f setting : ℕ) (s : State) (p buf : List ℕ) → drop 44356 (readLeft f setting s p buf) ≡ drop 44356 buf
+past-keeps f setting s p buf =
+    read-cases f setting s p buf (λ (a : Answer) (b : List ℕ). drop 44356 b ≡ drop 44356 buf) (λ n h. refl) (λ h e. refl)
+    (λ h m l. go (callOf setting s p buf) (leaves-call setting s p buf h))
   where
     used : (g : Phase) (after : List ℕ) → Kept buf g after → Fit g → drop 44356 after ≡ drop 44356 buf
     used (seeking c w) after k f = ap (drop 44356) k
     used (within pl r q) after k f = drop-more (pl / 8) 44356 after buf (omega (arith, f .0)) k
 
-    go : (c : Call Bench) → Leaves buf c → drop 44356 (callLeft c) ≡ drop 44356 buf
+    go : (c : Call Bench) → Leaves buf setting c → drop 44356 (callLeft c) ≡ drop 44356 buf
     go (more t b n v) k = used (b .0) (b .1) (k .0) (k .1)
     go (whole t b n v) k = k .1
 
 -- a call that finds no tail leaves the buffer as it was
-pub line-stays : (f : ℕ) (s : State) (p buf : List ℕ) (t : ℕ) (s′ : State)
-    → readAnswer f s p buf ≡ More t s′ → s′ .«in_line» ≡ false → readLeft f s p buf ≡ buf
-line-stays f s p buf t s′ e i = go (readAnswer f s p buf) e (keeps f s p buf)
+pub line-stays : (f setting : ℕ) (s : State) (p buf : List ℕ) (t : ℕ) (s′ : State)
+    → readAnswer f setting s p buf ≡ More t s′ → s′ .«in_line» ≡ false → readLeft f setting s p buf ≡ buf
+line-stays f setting s p buf t s′ e i = go (readAnswer f setting s p buf) e (keeps f setting s p buf)
   where
-    go : (a : Answer) → a ≡ More t s′ → KeepsBy s buf a (readLeft f s p buf) → readLeft f s p buf ≡ buf
+    go : (a : Answer) → a ≡ More t s′ → KeepsBy s buf a (readLeft f setting s p buf) → readLeft f setting s p buf ≡ buf
     go (Refused n) h k = k
     go (More u r) h k = let z : r .«in_line» ≡ false = (let y : r ≡ s′ = cc in ap (λ (x : State). x .«in_line») y ∙ i) in k .0 z
     go (Line u r) h k = let z : _≡_ {A = ℕ} 0 1 = cc in absurd (omega arith)
 
-pub refused-stays : (f : ℕ) (s : State) (p buf : List ℕ) (n : ℕ) → readAnswer f s p buf ≡ Refused n → readLeft f s p buf ≡ buf
-refused-stays f s p buf n e = go (readAnswer f s p buf) e (keeps f s p buf)
+pub refused-stays : (f setting : ℕ) (s : State) (p buf : List ℕ) (n : ℕ) → readAnswer f setting s p buf ≡ Refused n → readLeft f setting s p buf ≡ buf
+refused-stays f setting s p buf n e = go (readAnswer f setting s p buf) e (keeps f setting s p buf)
   where
-    go : (a : Answer) → a ≡ Refused n → KeepsBy s buf a (readLeft f s p buf) → readLeft f s p buf ≡ buf
+    go : (a : Answer) → a ≡ Refused n → KeepsBy s buf a (readLeft f setting s p buf) → readLeft f setting s p buf ≡ buf
     go (Refused m) h k = k
     go (More u r) h k = let z : _≡_ {A = ℕ} 0 1 = cc in absurd (omega arith)
     go (Line u r) h k = let z : _≡_ {A = ℕ} 0 1 = cc in absurd (omega arith)
 
 -- after a line the reader is between lines
-pub line-between : (f : ℕ) (s : State) (p buf : List ℕ) (t : ℕ) (s′ : State) → readAnswer f s p buf ≡ Line t s′ → s′ .«in_line» ≡ false
-line-between f s p buf t s′ e = go (readAnswer f s p buf) e (keeps f s p buf)
+pub line-between : (f setting : ℕ) (s : State) (p buf : List ℕ) (t : ℕ) (s′ : State) → readAnswer f setting s p buf ≡ Line t s′ → s′ .«in_line» ≡ false
+line-between f setting s p buf t s′ e = go (readAnswer f setting s p buf) e (keeps f setting s p buf)
   where
-    go : (a : Answer) → a ≡ Line t s′ → KeepsBy s buf a (readLeft f s p buf) → s′ .«in_line» ≡ false
+    go : (a : Answer) → a ≡ Line t s′ → KeepsBy s buf a (readLeft f setting s p buf) → s′ .«in_line» ≡ false
     go (Refused m) h k = let z : _≡_ {A = ℕ} 0 1 = cc in absurd (omega arith)
     go (More u r) h k = let z : _≡_ {A = ℕ} 0 1 = cc in absurd (omega arith)
     go (Line u r) h k = let y : s′ ≡ r = cc in ap (λ (x : State). x .«in_line») y ∙ k .0

@@ -10,10 +10,10 @@ use Rattle.reader_bits.specs.Lines.{isTail, lines}
 use Rattle.cuts.proofs.Auto as auto
 
 -- the lines of the first bits stand first among the lines of all, whatever bits follow
-pub lines-first : (xs bs : List ℕ) → take (length (lines xs)) (lines (xs ++ bs)) ≡ lines xs
+pub lines-first : (setting : ℕ) (xs bs : List ℕ) → take (length (lines setting xs)) (lines setting (xs ++ bs)) ≡ lines setting xs
 unfolding lines
-lines-first xs bs = auto.lines-first 64 isTail informationBits lineOf (zero-lt-suc 63) (zero-lt-suc 354847) xs bs
+lines-first setting xs bs = auto.lines-first 64 (isTail setting) informationBits lineOf (zero-lt-suc 63) (zero-lt-suc 354847) xs bs
 
 -- so other bits there change none of them
-pub lines-keep : (xs bs cs : List ℕ) → take (length (lines xs)) (lines (xs ++ bs)) ≡ take (length (lines xs)) (lines (xs ++ cs))
-lines-keep xs bs cs = lines-first xs bs ∙ sym (lines-first xs cs)
+pub lines-keep : (setting : ℕ) (xs bs cs : List ℕ) → take (length (lines setting xs)) (lines setting (xs ++ bs)) ≡ take (length (lines setting xs)) (lines setting (xs ++ cs))
+lines-keep setting xs bs cs = lines-first setting xs bs ∙ sym (lines-first setting xs cs)

@@ -1,5 +1,6 @@
 pub mod Calls
 pub mod Windows
+pub mod Zero
 pub mod Auto
 pub mod Cuts
 pub mod Snoc

@@ -13,7 +13,7 @@ use lib.ListN.{length}
 use lib.Pow.{pow-pos}
 use Rattle.bits.specs.Bits.{digits}
 use Rattle.refusals.specs.Refusals.{when, shortOf}
-use Rattle.refusals.proofs.Words.{first-none, kept-none, when-false}
+use Rattle.refusals.proofs.Words.{first-none, kept-none, when-false, within as inside-range}
 use Rattle.refusals.proofs.Given.{given-none}
 use Rattle.formats.specs.Formats.{lineBytes, formatOf, formatRefusal}
 use Rattle.formats.proofs.Which.{is-known}
@@ -27,7 +27,7 @@ use Rattle.reader_bits.specs.Call.{Call, call}
 use Rattle.reader_bits.specs.Lines.{isTail}
 use Rattle.reader_bits.specs.Phase.{Phase, seeking, within, phaseNext, Bench}
 use Rattle.reader_bits.specs.Loops.{stepOf, doneOf}
-use Rattle.reader.specs.Read.{callOf, callAnswer, callLeft, servedAnswer, servedLeft, readRefusal, readAnswer, readLeft}
+use Rattle.reader.specs.Read.{callOf, callAnswer, callLeft, servedAnswer, servedLeft, largestSetting, settingRefusal, readRefusal, readAnswer, readLeft}
 use Rattle.reader.specs.declared.Answer.the-variants.{Refused}
 use Rattle.reader_record.specs.Records.{countsOf, possibleOf, stateOf}
 use Rattle.reader_record.specs.declared.State.{State}
@@ -60,16 +60,16 @@ good-left (within p r q) n v h = omega (arith, h .3)
 pub fresh-good : Good (seeking 0 0) 0 0
 fresh-good = (zero-lt-suc 63, le-refl 1, zero-le, le-refl 1)
 
-pub fit-next : (f : Phase) (b : ℕ) → b < 2 → Fit f → Fit (phaseNext 64 isTail lineBytes f b)
+pub fit-next : (setting : ℕ) (f : Phase) (b : ℕ) → b < 2 → Fit f → Fit (phaseNext 64 (isTail setting) lineBytes f b)
 unfolding phaseNext
-fit-next (seeking c w) b k h = go (ltb (suc c) 64) refl (isTail (digits 64 (w * 2 + b)))
+fit-next setting (seeking c w) b k h = go (ltb (suc c) 64) refl (isTail setting (digits 64 (w * 2 + b)))
   where
     go : (x : Bool) → ltb (suc c) 64 ≡ x → (y : Bool)
         → Fit (cond x (seeking (suc c) (w * 2 + b)) (cond y (within 0 fifteenOnes 0) (seeking c ((w * 2 + b) % 2 ^ c))))
     go true e y = (ltb-true (suc c) 64 e, rw add-one at (push-lt c w b (h .1) k))
     go false e true = (omega arith, omega arith, le-refl 1)
     go false e false = (h .0, mod-lt (w * 2 + b) (pow-pos c))
-fit-next (within p r q) b k h = go (leb 354848 (suc p)) refl (eqb (p % 8) 7) refl
+fit-next setting (within p r q) b k h = go (leb 354848 (suc p)) refl (eqb (p % 8) 7) refl
   where
     x : ℕ
     x = plainBit p r b
@@ -92,27 +92,27 @@ Inside s = Fit (s .0) × (44356 ≤ length (s .1))
 abbrev pub Left : Bench → ℕ → ℕ → Type 0
 Left s n v = Good (s .0) n v × (44356 ≤ length (s .1))
 
-room-next : (s : Bench) (b : ℕ) → 44356 ≤ length (s .1) → 44356 ≤ length (stepOf s b .1)
-room-next s b h = rw (buffer-length (s .0) (s .1) b) h
+room-next : (setting : ℕ) (s : Bench) (b : ℕ) → 44356 ≤ length (s .1) → 44356 ≤ length (stepOf setting s b .1)
+room-next setting s b h = rw (buffer-length (s .0) (s .1) b) h
 
-pub inside-on : (s : Bench) (b : ℕ) → b < 2 → doneOf s b ≡ false → Inside s → Inside (stepOf s b)
-inside-on s b h e i = (fit-next (s .0) b h (i .0), room-next s b (i .1))
+pub inside-on : (setting : ℕ) (s : Bench) (b : ℕ) → b < 2 → doneOf s b ≡ false → Inside s → Inside (stepOf setting s b)
+inside-on setting s b h e i = (fit-next setting (s .0) b h (i .0), room-next setting s b (i .1))
 
 pub inside-rest : (s : Bench) → Inside s → Left s 0 0
 inside-rest s i = (fit-good (s .0) (i .0), i .1)
 
-pub inside-stop : (s : Bench) (b : ℕ) → b < 2 → doneOf s b ≡ true → Inside s → (n v : ℕ) → n ≤ 7 → v < 2 ^ n → Left (stepOf s b) n v
-inside-stop s b h e i n v l w = (go (phaseNext 64 isTail lineBytes (s .0) b) (after-line 64 isTail lineBytes (s .0) b e), room-next s b (i .1))
+pub inside-stop : (setting : ℕ) (s : Bench) (b : ℕ) → b < 2 → doneOf s b ≡ true → Inside s → (n v : ℕ) → n ≤ 7 → v < 2 ^ n → Left (stepOf setting s b) n v
+inside-stop setting s b h e i n v l w = (go (phaseNext 64 (isTail setting) lineBytes (s .0) b) (after-line 64 (isTail setting) lineBytes (s .0) b e), room-next setting s b (i .1))
   where
     go : (g : Phase) → g ≡ seeking 0 0 → Good g n v
     go g k = rw k (zero-lt-suc 63, le-refl 1, l, w)
 
-abbrev pub LeftBy : Call Bench → Type 0
-LeftBy c = Gives stepOf doneOf Inside Left Left inside-on inside-rest inside-stop c
+abbrev pub LeftBy : ℕ → Call Bench → Type 0
+LeftBy setting c = Gives (stepOf setting) doneOf Inside Left Left (inside-on setting) inside-rest (inside-stop setting) c
 
-pub left-call : (p : List ℕ) (g : Phase) (buf : List ℕ) (n v : ℕ) → Good g n v → 44356 ≤ length buf → LeftBy (call stepOf doneOf (g, buf) n v p)
-left-call p g buf n v h m =
-    gives-call stepOf doneOf Inside Left Left inside-on inside-rest inside-stop p (g, buf) n v (good-left g n v h) (good-fit g n v h, m) (h, m)
+pub left-call : (setting : ℕ) (p : List ℕ) (g : Phase) (buf : List ℕ) (n v : ℕ) → Good g n v → 44356 ≤ length buf → LeftBy setting (call (stepOf setting) doneOf (g, buf) n v p)
+left-call setting p g buf n v h m =
+    gives-call (stepOf setting) doneOf Inside Left Left (inside-on setting) inside-rest (inside-stop setting) p (g, buf) n v (good-left g n v h) (good-fit g n v h, m) (h, m)
 
 -- ---- such a record is not refused
 
@@ -124,37 +124,38 @@ good-possible (within p r q) n v h =
     rw (le-leb p 354847 (omega (arith, h .0)), le-leb r 32767 (omega (arith, h .1)), eq-eqb (p % 8) (p % 8) refl, lt-ltb q (2 ^ (p % 8)) (h .2))
 
 -- the public call is the call on the bits
-same-call : (g : Phase) (n v : ℕ) (p buf : List ℕ) → Good g n v → callOf (stateOf g n v) p buf ≡ call stepOf doneOf (g, buf) n v p
+same-call : (setting : ℕ) (g : Phase) (n v : ℕ) (p buf : List ℕ) → Good g n v → callOf setting (stateOf g n v) p buf ≡ call (stepOf setting) doneOf (g, buf) n v p
 unfolding callOf
-same-call (seeking c w) n v p buf h = refl
-same-call (within pl r q) n v p buf h = ap₂ (λ (x y : ℕ). call stepOf doneOf (within pl r q, buf) x y p) (sym (h .3)) (sym (h .4))
+same-call setting (seeking c w) n v p buf h = refl
+same-call setting (within pl r q) n v p buf h = ap₂ (λ (x y : ℕ). call (stepOf setting) doneOf (within pl r q, buf) x y p) (sym (h .3)) (sym (h .4))
 
-served-answers : (g : Phase) (n v : ℕ) (p buf : List ℕ) → Good g n v → servedAnswer (stateOf g n v) p buf ≡ callAnswer (call stepOf doneOf (g, buf) n v p)
+served-answers : (setting : ℕ) (g : Phase) (n v : ℕ) (p buf : List ℕ) → Good g n v → servedAnswer setting (stateOf g n v) p buf ≡ callAnswer (call (stepOf setting) doneOf (g, buf) n v p)
 unfolding servedAnswer
-served-answers g n v [] buf h = refl
-served-answers g n v (y ∷ ys) buf h = rw (ne-eqb (suc (length ys)) 0 (omega arith)) (ap callAnswer (same-call g n v (y ∷ ys) buf h))
+served-answers setting g n v [] buf h = refl
+served-answers setting g n v (y ∷ ys) buf h = rw (ne-eqb (suc (length ys)) 0 (omega arith)) (ap callAnswer (same-call setting g n v (y ∷ ys) buf h))
 
-served-buffers : (g : Phase) (n v : ℕ) (p buf : List ℕ) → Good g n v → servedLeft (stateOf g n v) p buf ≡ callLeft (call stepOf doneOf (g, buf) n v p)
+served-buffers : (setting : ℕ) (g : Phase) (n v : ℕ) (p buf : List ℕ) → Good g n v → servedLeft setting (stateOf g n v) p buf ≡ callLeft (call (stepOf setting) doneOf (g, buf) n v p)
 unfolding servedLeft
-served-buffers g n v [] buf h = refl
-served-buffers g n v (y ∷ ys) buf h = rw (ne-eqb (suc (length ys)) 0 (omega arith)) (ap callLeft (same-call g n v (y ∷ ys) buf h))
+served-buffers setting g n v [] buf h = refl
+served-buffers setting g n v (y ∷ ys) buf h = rw (ne-eqb (suc (length ys)) 0 (omega arith)) (ap callLeft (same-call setting g n v (y ∷ ys) buf h))
 
-module _ (f : ℕ) (k : Format) (ok : formatOf f ≡ Is k) where
-  not-refused : (s : State) (given : ℕ) → possibleOf s ≡ true → 44356 ≤ given → readRefusal f s given ≡ 0
+module _ (f : ℕ) (k : Format) (ok : formatOf f ≡ Is k) (setting : ℕ) (small : setting ≤ largestSetting) where
+  not-refused : (s : State) (given : ℕ) → possibleOf s ≡ true → 44356 ≤ given → readRefusal f setting s given ≡ 0
   unfolding readRefusal shortOf
   not-refused s given h m =
       first-none (formatRefusal f) _ (is-known f k ok)
+      ∙ first-none (settingRefusal setting) _ (inside-range 0 largestSetting setting 13 zero-le small)
       ∙ first-none (when (not (possibleOf s)) 12) _ (when-false (not (possibleOf s)) 12 (ap not h))
       ∙ when-false (ltb given lineBytes) 2 (le-ltb given lineBytes m)
 
   pub answers : (g : Phase) (n v : ℕ) (p buf : List ℕ) → Good g n v → 44356 ≤ length buf
-      → readAnswer f (stateOf g n v) p buf ≡ callAnswer (call stepOf doneOf (g, buf) n v p)
+      → readAnswer f setting (stateOf g n v) p buf ≡ callAnswer (call (stepOf setting) doneOf (g, buf) n v p)
   unfolding readAnswer
   answers g n v p buf h m =
-      sym (given-none Refused 0 _ _ _ (sym (not-refused (stateOf g n v) (length buf) (good-possible g n v h) m)) refl (sym (served-answers g n v p buf h)))
+      sym (given-none Refused 0 _ _ _ (sym (not-refused (stateOf g n v) (length buf) (good-possible g n v h) m)) refl (sym (served-answers setting g n v p buf h)))
 
   pub buffers : (g : Phase) (n v : ℕ) (p buf : List ℕ) → Good g n v → 44356 ≤ length buf
-      → readLeft f (stateOf g n v) p buf ≡ callLeft (call stepOf doneOf (g, buf) n v p)
+      → readLeft f setting (stateOf g n v) p buf ≡ callLeft (call (stepOf setting) doneOf (g, buf) n v p)
   unfolding readLeft
   buffers g n v p buf h m =
-      kept-none _ buf _ (not-refused (stateOf g n v) (length buf) (good-possible g n v h) m) ∙ served-buffers g n v p buf h
+      kept-none _ buf _ (not-refused (stateOf g n v) (length buf) (good-possible g n v h) m) ∙ served-buffers setting g n v p buf h

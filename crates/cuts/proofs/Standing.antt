@@ -17,11 +17,11 @@ pub record Last (ls : List (List ℕ)) (buf : List ℕ) : Type 0 where
 kept-last : (ls : List (List ℕ)) (buf after : List ℕ) → after ≡ buf → Last ls buf → Last ls after
 kept-last ls buf after e l = record { before = l .before; all = l .all ∙ ap (λ (x : List ℕ). l .before ++ (lineIn x ∷ [])) (sym e) }
 
-pub line-stands : {f : ℕ} {lend : ℕ → List ℕ → List ℕ} {first : List ℕ} {k : ℕ} {s : State} {buf bytes : List ℕ} {ls : List (List ℕ)}
-    (m : Moment f lend first k s buf bytes ls) → Standing m → Last ls buf
+pub line-stands : {f setting : ℕ} {lend : ℕ → List ℕ → List ℕ} {first : List ℕ} {k : ℕ} {s : State} {buf bytes : List ℕ} {ls : List (List ℕ)}
+    (m : Moment f setting lend first k s buf bytes ls) → Standing m → Last ls buf
 unfolding Standing
 line-stands driven.Moment.start w = absurd w
 line-stands (driven.Moment.got {ls = ls} p m e) w = record { before = ls; all = refl }
-line-stands {f} {lend} (driven.Moment.on {k = k} {s = s} {buf = buf} {ls = ls} {t = t} {s′ = s′} p m e) w =
-    kept-last ls buf (readLeft f s p (lentFor lend k s buf)) (line-stays f s p (lentFor lend k s buf) t s′ e (w .2) ∙ w .1) (line-stands m (w .0))
-line-stands (driven.Moment.refused {buf = buf} {ls = ls} {n = n} g r p m e) w = kept-last ls buf (readLeft g r p buf) (refused-stays g r p buf n e) (line-stands m w)
+line-stands {f} {setting} {lend} (driven.Moment.on {k = k} {s = s} {buf = buf} {ls = ls} {t = t} {s′ = s′} p m e) w =
+    kept-last ls buf (readLeft f setting s p (lentFor lend k s buf)) (line-stays f setting s p (lentFor lend k s buf) t s′ e (w .2) ∙ w .1) (line-stands m (w .0))
+line-stands (driven.Moment.refused {buf = buf} {ls = ls} {n = n} g a r p m e) w = kept-last ls buf (readLeft g a r p buf) (refused-stays g a r p buf n e) (line-stands m w)

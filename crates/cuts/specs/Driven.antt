@@ -1,4 +1,4 @@
--- THE CALLER of demand 3, and what it is handed. It offers a piece, and each unread rest of it, until the piece is used up,
+-- THE CALLER of demand 3, and what it is handed. It hands in the same setting in all calls on a recording. It offers a piece, and each unread rest of it, until the piece is used up,
 -- and then the next; the record goes from call to call, and so does the buffer, which the caller may exchange for another
 -- before a call while the reader is between lines. Assumes nothing.
 use mathlib.Core.Bool.{false, cond}
@@ -25,22 +25,22 @@ oneBuffer k buf = buf
 unfoldable pub lineIn : List ℕ → List ℕ
 lineIn buf = bitsOf (take lineBytes buf)
 
--- the calls of format f from call k on, with a record, a buffer and the pieces to offer; and the lines handed out, each as
+-- the calls of format f at one setting from call k on, with a record, a buffer and the pieces to offer; and the lines handed out, each as
 -- it stands in the buffer right after the call that says so
-pub data Driven (f : ℕ) (lend : ℕ → List ℕ → List ℕ) : ℕ → State → List ℕ → List (List ℕ) → List (List ℕ) → Type 0 where
-  end : {k : ℕ} {s : State} {buf : List ℕ} → Driven f lend k s buf [] []
-  used : {k : ℕ} {s : State} {buf : List ℕ} {ps ls : List (List ℕ)} → Driven f lend k s buf ps ls → Driven f lend k s buf ([] ∷ ps) ls
+pub data Driven (f setting : ℕ) (lend : ℕ → List ℕ → List ℕ) : ℕ → State → List ℕ → List (List ℕ) → List (List ℕ) → Type 0 where
+  end : {k : ℕ} {s : State} {buf : List ℕ} → Driven f setting lend k s buf [] []
+  used : {k : ℕ} {s : State} {buf : List ℕ} {ps ls : List (List ℕ)} → Driven f setting lend k s buf ps ls → Driven f setting lend k s buf ([] ∷ ps) ls
   on : {k : ℕ} {s : State} {buf p : List ℕ} {ps ls : List (List ℕ)} {t : ℕ} {s′ : State}
-      → readAnswer f s p (lentFor lend k s buf) ≡ More t s′
-      → Driven f lend (suc k) s′ (readLeft f s p (lentFor lend k s buf)) (drop t p ∷ ps) ls
-      → Driven f lend k s buf (p ∷ ps) ls
+      → readAnswer f setting s p (lentFor lend k s buf) ≡ More t s′
+      → Driven f setting lend (suc k) s′ (readLeft f setting s p (lentFor lend k s buf)) (drop t p ∷ ps) ls
+      → Driven f setting lend k s buf (p ∷ ps) ls
   got : {k : ℕ} {s : State} {buf p : List ℕ} {ps ls : List (List ℕ)} {t : ℕ} {s′ : State}
-      → readAnswer f s p (lentFor lend k s buf) ≡ Line t s′
-      → Driven f lend (suc k) s′ (readLeft f s p (lentFor lend k s buf)) (drop t p ∷ ps) ls
-      → Driven f lend k s buf (p ∷ ps) (lineIn (readLeft f s p (lentFor lend k s buf)) ∷ ls)
+      → readAnswer f setting s p (lentFor lend k s buf) ≡ Line t s′
+      → Driven f setting lend (suc k) s′ (readLeft f setting s p (lentFor lend k s buf)) (drop t p ∷ ps) ls
+      → Driven f setting lend k s buf (p ∷ ps) (lineIn (readLeft f setting s p (lentFor lend k s buf)) ∷ ls)
 
 -- the bytes taken in a run of calls, in all
-unfoldable pub takenIn : {f : ℕ} {lend : ℕ → List ℕ → List ℕ} {k : ℕ} {s : State} {buf : List ℕ} {ps ls : List (List ℕ)} → Driven f lend k s buf ps ls → ℕ
+unfoldable pub takenIn : {f setting : ℕ} {lend : ℕ → List ℕ → List ℕ} {k : ℕ} {s : State} {buf : List ℕ} {ps ls : List (List ℕ)} → Driven f setting lend k s buf ps ls → ℕ
 takenIn end = 0
 takenIn (used d) = takenIn d
 takenIn (on {t = t} e d) = t + takenIn d
@@ -48,30 +48,30 @@ takenIn (got {t = t} e d) = t + takenIn d
 
 -- a moment of a run of calls from a fresh reader: the calls made but the refused ones, the record and the buffer after them, the
 -- bytes taken so far, in a row, and the lines handed out so far. A call may be offered any bytes beyond those that it takes; a
--- refused one may be of any format, with any record
-pub data Moment (f : ℕ) (lend : ℕ → List ℕ → List ℕ) (first : List ℕ) : ℕ → State → List ℕ → List ℕ → List (List ℕ) → Type 0 where
-  start : Moment f lend first 0 freshState first [] []
+-- refused one may be of any format, at any setting, with any record
+pub data Moment (f setting : ℕ) (lend : ℕ → List ℕ → List ℕ) (first : List ℕ) : ℕ → State → List ℕ → List ℕ → List (List ℕ) → Type 0 where
+  start : Moment f setting lend first 0 freshState first [] []
   on : {k : ℕ} {s : State} {buf bytes : List ℕ} {ls : List (List ℕ)} {t : ℕ} {s′ : State} (p : List ℕ)
-      → Moment f lend first k s buf bytes ls
-      → readAnswer f s p (lentFor lend k s buf) ≡ More t s′
-      → Moment f lend first (suc k) s′ (readLeft f s p (lentFor lend k s buf)) (bytes ++ take t p) ls
+      → Moment f setting lend first k s buf bytes ls
+      → readAnswer f setting s p (lentFor lend k s buf) ≡ More t s′
+      → Moment f setting lend first (suc k) s′ (readLeft f setting s p (lentFor lend k s buf)) (bytes ++ take t p) ls
   got : {k : ℕ} {s : State} {buf bytes : List ℕ} {ls : List (List ℕ)} {t : ℕ} {s′ : State} (p : List ℕ)
-      → Moment f lend first k s buf bytes ls
-      → readAnswer f s p (lentFor lend k s buf) ≡ Line t s′
-      → Moment f lend first (suc k) s′ (readLeft f s p (lentFor lend k s buf)) (bytes ++ take t p) (ls ++ (lineIn (readLeft f s p (lentFor lend k s buf)) ∷ []))
-  refused : {k : ℕ} {s : State} {buf bytes : List ℕ} {ls : List (List ℕ)} {n : ℕ} (g : ℕ) (r : State) (p : List ℕ)
-      → Moment f lend first k s buf bytes ls
-      → readAnswer g r p buf ≡ Refused n
-      → Moment f lend first k s (readLeft g r p buf) bytes ls
+      → Moment f setting lend first k s buf bytes ls
+      → readAnswer f setting s p (lentFor lend k s buf) ≡ Line t s′
+      → Moment f setting lend first (suc k) s′ (readLeft f setting s p (lentFor lend k s buf)) (bytes ++ take t p) (ls ++ (lineIn (readLeft f setting s p (lentFor lend k s buf)) ∷ []))
+  refused : {k : ℕ} {s : State} {buf bytes : List ℕ} {ls : List (List ℕ)} {n : ℕ} (g a : ℕ) (r : State) (p : List ℕ)
+      → Moment f setting lend first k s buf bytes ls
+      → readAnswer g a r p buf ≡ Refused n
+      → Moment f setting lend first k s (readLeft g a r p buf) bytes ls
 
 -- A LINE STANDS WHOLE IN THE BUFFER: right after the call that handed it out, and after each later call that was lent the same
 -- buffer and found no tail, or was refused
-unfoldable pub Standing : {f : ℕ} {lend : ℕ → List ℕ → List ℕ} {first : List ℕ} {k : ℕ} {s : State} {buf bytes : List ℕ} {ls : List (List ℕ)}
-    → Moment f lend first k s buf bytes ls → Type 0
+unfoldable pub Standing : {f setting : ℕ} {lend : ℕ → List ℕ → List ℕ} {first : List ℕ} {k : ℕ} {s : State} {buf bytes : List ℕ} {ls : List (List ℕ)}
+    → Moment f setting lend first k s buf bytes ls → Type 0
 Standing start = ⊥
 Standing (got p m e) = Unit {0}
 Standing {lend = lend} (on {k = k} {s = s} {buf = buf} {s′ = s′} p m e) = Standing m × (lentFor lend k s buf ≡ buf) × (s′ .«in_line» ≡ false)
-Standing (refused g r p m e) = Standing m
+Standing (refused g a r p m e) = Standing m
 
 -- the bits read so far: all of the bytes taken but the unread ones
 unfoldable pub bitsRead : State → List ℕ → List ℕ

@@ -1,5 +1,5 @@
 -- DEMAND 2: what is put into the sectors of plain lines comes back, through the writer, any cut of its recording, and the reader
--- (`demand-2`). Assumes nothing.
+-- at any setting (`demand-2`). Assumes nothing.
 use mathlib.Core.List.{List, [], _∷_, _++_, map}
 use mathlib.Core.Path.{_≡_, refl, sym, ap, ap₂, subst, _∙_}
 use Prim.Native.Nat.{ℕ, suc, _≤_}
@@ -22,6 +22,7 @@ use Rattle.formats.specs.declared.FormatAnswer.the-variants.{Is}
 use Rattle.cuts.specs.Driven.{Driven, Moment, Standing, lineIn}
 use Rattle.reader_bits.specs.Lines.{lines, recorded}
 use Rattle.reader_record.specs.Records.{freshState}
+use Rattle.reader.specs.Read.{largestSetting}
 use Rattle.reader_record.specs.declared.State.{State}
 use Rattle.cuts.proofs.Later.{lines-first}
 use Rattle.cuts.proofs.Moments.{full-size, of-the-bytes}
@@ -95,33 +96,33 @@ held-back n ls i sector w buf h full stands =
     let table = one-of w sector (c .low) (c .high) in
     comes-back n sector buf full w (line-carries n sector w (getD ls i []) buf (holds-full n sector w h) full (stands ∙ nth-line ls i) (table .0) (table .1) c)
 
-module _ (n : ℕ) (f : Format) (e : formatOf n ≡ Is f)
+module _ (n : ℕ) (f : Format) (e : formatOf n ≡ Is f) (setting : ℕ) (small : setting ≤ largestSetting)
     (lend : ℕ → List ℕ → List ℕ) (long : (k : ℕ) (buf : List ℕ) → 44356 ≤ length buf → 44356 ≤ length (lend k buf)) (first : List ℕ) (room : 44356 ≤ length first)
     {ls : List (List ℕ)} {recording : List ℕ} (r : Recording n ls recording) where
   -- DEMAND 2. What is put into the sectors of plain lines, the lines written, their recording cut in any way and read by a fresh
   -- reader with any full-size buffers: as many lines, the same, and every sector is accepted, has no filler set, and gives the
   -- same data, their spare bits cleared, and the same pixels
-  pub demand-2 : (ps : List (List ℕ)) → inARow ps ≡ recording → (out : List (List ℕ)) → Driven n lend 0 freshState first ps out → ComeBack n ls out
+  pub demand-2 : (ps : List (List ℕ)) → inARow ps ≡ recording → (out : List (List ℕ)) → Driven n setting lend 0 freshState first ps out → ComeBack n ls out
   demand-2 ps cut out d =
       let is = recording-is n f e r in
-      let same : out ≡ map lineIn ls = there-and-back n f e lend long first room (map (take lineBytes) ls) (is .0) ps (cut ∙ is .1) out .0 d ∙ lines-in ls in
+      let same : out ≡ map lineIn ls = there-and-back n f e setting small lend long first room (map (take lineBytes) ls) (is .0) ps (cut ∙ is .1) out .0 d ∙ lines-in ls in
       record { same = same; held = λ i sector w buf h full stands. held-back n ls i sector w buf h full (stands ∙ ap (λ (x : List (List ℕ)). getD x i []) same) }
 
   -- and already while it is read: at every moment at which a line stands whole in the buffer, the i-th handed out, what the sectors
   -- of the i-th line written held comes back from that buffer
-  pub demand-2-standing : {k : ℕ} {s : State} {buf bytes : List ℕ} {out : List (List ℕ)} (m : Moment n lend first k s buf bytes out) → Standing m → (rest : List ℕ) → bytes ++ rest ≡ recording
+  pub demand-2-standing : {k : ℕ} {s : State} {buf bytes : List ℕ} {out : List (List ℕ)} (m : Moment n setting lend first k s buf bytes out) → Standing m → (rest : List ℕ) → bytes ++ rest ≡ recording
       → (i : ℕ) → length out ≡ suc i → (sector : ℕ) (w : Put) → Holds n sector w (getD ls i []) → ComesBack n sector w buf
   unfolding recorded
   demand-2-standing {buf = buf} {bytes = bytes} {out = out} m whole rest cut i many sector w h =
       let is = recording-is n f e r in
       let l = line-stands m whole in
-      let so : out ≡ recorded bytes = of-the-bytes n f e lend long first room m in
-      let all : lines (bitsOf bytes ++ bitsOf rest) ≡ map lineIn ls =
-      ap lines (sym (bits-append bytes rest)) ∙ ap recorded (cut ∙ is .1) ∙ round-trip n f e (map (take lineBytes) ls) (is .0) ∙ lines-in ls in
+      let so : out ≡ recorded setting bytes = of-the-bytes n f e setting small lend long first room m in
+      let all : lines setting (bitsOf bytes ++ bitsOf rest) ≡ map lineIn ls =
+      ap (lines setting) (sym (bits-append bytes rest)) ∙ ap (recorded setting) (cut ∙ is .1) ∙ round-trip n f e setting (omega arith) (map (take lineBytes) ls) (is .0) ∙ lines-in ls in
       let front : out ≡ take (length out) (map lineIn ls) =
-      so ∙ sym (lines-first (bitsOf bytes) (bitsOf rest)) ∙ ap₂ (λ (j : ℕ) (x : List (List ℕ)). take j x) (ap length (sym so)) all in
+      so ∙ sym (lines-first setting (bitsOf bytes) (bitsOf rest)) ∙ ap₂ (λ (j : ℕ) (x : List (List ℕ)). take j x) (ap length (sym so)) all in
       let last : length (l .before) ≡ i = omega (arith, many, ap length (l .all), length-append (l .before) (lineIn buf ∷ [])) in
-      held-back n ls i sector w buf h (full-size n f e lend long first room m)
+      held-back n ls i sector w buf h (full-size n f e setting small lend long first room m)
       (sym (getD-append-seam (l .before) (lineIn buf) [] [])
       ∙ ap₂ (λ (x : List (List ℕ)) (j : ℕ). getD x j []) (sym (l .all) ∙ front) last
       ∙ getD-take (length out) (map lineIn ls) i [] (omega arith))

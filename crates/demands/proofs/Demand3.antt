@@ -9,6 +9,7 @@ use Rattle.formats.specs.declared.Format.{Format}
 use Rattle.formats.specs.declared.FormatAnswer.the-variants.{Is}
 use Rattle.reader_bits.specs.Lines.{lines, recorded}
 use Rattle.reader_record.specs.Records.{freshState}
+use Rattle.reader.specs.Read.{largestSetting}
 use Rattle.cuts.specs.Driven.{Driven}
 use Rattle.cuts.proofs.Advances.{takes-all, takes-most, takes-one, takes-none}
 use Rattle.cuts.proofs.Demand.{demand-3}
@@ -17,23 +18,23 @@ use Rattle.cuts.proofs.Moments.{at-every-moment, of-the-bytes, at-its-last-bit}
 use Rattle.demands.specs.Demand3.{Demand3}
 use Rattle.demands.proofs.OneLine.{a-line-is-a-line}
 
--- THE DEMAND, of any full-size buffers
-module _ (f : ℕ) (format : Format) (ok : formatOf f ≡ Is format)
+-- THE DEMAND, at every setting, of any full-size buffers
+module _ (f : ℕ) (format : Format) (ok : formatOf f ≡ Is format) (setting : ℕ) (small : setting ≤ largestSetting)
     (lend : ℕ → List ℕ → List ℕ) (long : (k : ℕ) (buf : List ℕ) → 44356 ≤ length buf → 44356 ≤ length (lend k buf)) (first : List ℕ) (room : 44356 ≤ length first) where
-  first-lines : (ps ls : List (List ℕ)) → Driven f lend 0 freshState first ps ls → (xs ys : List ℕ) → bitsOf (inARow ps) ≡ xs ++ ys → take (length (lines xs)) ls ≡ lines xs
+  first-lines : (ps ls : List (List ℕ)) → Driven f setting lend 0 freshState first ps ls → (xs ys : List ℕ) → bitsOf (inARow ps) ≡ xs ++ ys → take (length (lines setting xs)) ls ≡ lines setting xs
   unfolding recorded
-  first-lines ps ls run xs ys e = ap (take (length (lines xs))) (demand-3 f format ok lend long first room ps ls .0 run ∙ ap lines e) ∙ lines-first xs ys
+  first-lines ps ls run xs ys e = ap (take (length (lines setting xs))) (demand-3 f format ok setting small lend long first room ps ls .0 run ∙ ap (lines setting) e) ∙ lines-first setting xs ys
 
-  pub demand-3-all : Demand3 f lend first
+  pub demand-3-all : Demand3 f setting lend first
   demand-3-all = record {
-    a = demand-3 f format ok lend long first room;
-    a-bytes = of-the-bytes f format ok lend long first room;
-    a-bits = at-every-moment f format ok lend long first room;
-    a-last-bit = at-its-last-bit f format ok lend long first room;
-    b = a-line-is-a-line f format ok lend long first room;
+    a = demand-3 f format ok setting small lend long first room;
+    a-bytes = of-the-bytes f format ok setting small lend long first room;
+    a-bits = at-every-moment f format ok setting small lend long first room;
+    a-last-bit = at-its-last-bit f format ok setting small lend long first room;
+    b = a-line-is-a-line f format ok setting small lend long first room;
     c = λ ps qs ls ms run other xs ys zs p q. (first-lines ps ls run xs ys p, first-lines qs ms other xs zs q);
     d = λ ps ls run. takes-all run;
-    d-most = takes-most f;
-    d-one = takes-one f;
-    d-none = takes-none f;
+    d-most = takes-most f setting;
+    d-one = takes-one f setting;
+    d-none = takes-none f setting;
   }

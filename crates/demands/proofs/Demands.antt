@@ -4,6 +4,7 @@ use mathlib.Core.List.{List, map}
 use mathlib.Core.Logic.{_↔_}
 use mathlib.Core.Path.{_≡_, sym, ap, _∙_}
 use Prim.Native.Nat.{ℕ, _≤_}
+use native.Mathlib.Omega.{arith}
 use lib.ListN.{length, take}
 use lib.Seq.{length-take-le}
 use Rattle.bits.specs.Bits.{bitsOf, Below, inARow}
@@ -14,19 +15,20 @@ use Rattle.formats.specs.declared.FormatAnswer.the-variants.{Is}
 use Rattle.cuts.specs.Driven.{Driven, lineIn}
 use Rattle.reader_bits.specs.Lines.{recorded}
 use Rattle.reader_record.specs.Records.{freshState}
+use Rattle.reader.specs.Read.{largestSetting}
 use Rattle.cuts.proofs.Demand.{demand-3}
 use Rattle.demands.specs.RoundTrip.{PlainLine, PlainLines, recordingOf}
 use Rattle.demands.proofs.RoundTrip.{round-trip}
 
--- DEMAND 2 WITH DEMAND 3: the recording of any run of plain lines, cut into any pieces, read by a fresh reader with any
--- full-size buffers: the lines handed out are exactly those lines, in order
-pub there-and-back : (n : ℕ) (f : Format) → formatOf n ≡ Is f
+-- DEMAND 2 WITH DEMAND 3: the recording of any run of plain lines, cut into any pieces, read by a fresh reader at any
+-- setting with any full-size buffers: the lines handed out are exactly those lines, in order
+pub there-and-back : (n : ℕ) (f : Format) → formatOf n ≡ Is f → (setting : ℕ) → setting ≤ largestSetting
     → (lend : ℕ → List ℕ → List ℕ) → ((k : ℕ) (buf : List ℕ) → 44356 ≤ length buf → 44356 ≤ length (lend k buf)) → (buf : List ℕ) → 44356 ≤ length buf
     → (ls : List (List ℕ)) → PlainLines ls → (ps : List (List ℕ)) → inARow ps ≡ recordingOf f ls
-    → (out : List (List ℕ)) → Driven n lend 0 freshState buf ps out ↔ (out ≡ map bitsOf ls)
-there-and-back n f e lend long buf room ls plain ps cut out =
-    let d = demand-3 n f e lend long buf room ps out in
-    let same : recorded (inARow ps) ≡ map bitsOf ls = ap recorded cut ∙ round-trip n f e ls plain in
+    → (out : List (List ℕ)) → Driven n setting lend 0 freshState buf ps out ↔ (out ≡ map bitsOf ls)
+there-and-back n f e setting small lend long buf room ls plain ps cut out =
+    let d = demand-3 n f e setting small lend long buf room ps out in
+    let same : recorded setting (inARow ps) ≡ map bitsOf ls = ap (recorded setting) cut ∙ round-trip n f e setting (omega arith) ls plain in
     (λ x. d .0 x ∙ same, λ y. d .1 (y ∙ sym same))
 
 -- the bits of a line in a buffer are those of a plain line only where its bytes are

@@ -10,3 +10,7 @@ pub mod Demand2
 pub mod Refusals
 pub mod Orders
 pub mod Demand3
+pub mod Guarded
+pub mod Iced
+pub mod Nine
+pub mod Thirteen

@@ -12,6 +12,7 @@ use Rattle.formats.specs.declared.Format.{Format}
 use Rattle.formats.specs.declared.FormatAnswer.the-variants.{Is}
 use Rattle.reader_bits.specs.Lines.{recorded}
 use Rattle.reader_record.specs.declared.State.{State}
+use Rattle.reader.specs.Read.{largestSetting}
 use Rattle.cuts.specs.Driven.{lineIn, Moment, Standing}
 use Rattle.cuts.proofs.Moments.{of-the-bytes}
 use Rattle.cuts.proofs.Standing.{line-stands}
@@ -54,16 +55,16 @@ joined-pixel f channel buf out e i h =
     ∙ List·getD-append (joinedOf xs ys) (drop (upperOf channel .count) out) 0 i (omega (arith, length-joined xs ys same, lx))
     ∙ joined-at xs ys i same (omega (arith, lx))
 
--- THE CLAIM: a fresh reader on one format and full-size buffers, at any moment at which a line stands
-pub a-line-is-a-line : (f : ℕ) (format : Format) → formatOf f ≡ Is format
+-- THE CLAIM: a fresh reader on one format at one setting and full-size buffers, at any moment at which a line stands
+pub a-line-is-a-line : (f : ℕ) (format : Format) → formatOf f ≡ Is format → (setting : ℕ) → setting ≤ largestSetting
     → (lend : ℕ → List ℕ → List ℕ) → ((k : ℕ) (buf : List ℕ) → 44356 ≤ length buf → 44356 ≤ length (lend k buf)) → (first : List ℕ) → 44356 ≤ length first
-    → {k : ℕ} {s : State} {buf bytes : List ℕ} {ls : List (List ℕ)} (m : Moment f lend first k s buf bytes ls) → Standing m → OneLine f (recorded bytes) buf
-a-line-is-a-line f format ok lend long first room {buf = buf} m whole =
+    → {k : ℕ} {s : State} {buf bytes : List ℕ} {ls : List (List ℕ)} (m : Moment f setting lend first k s buf bytes ls) → Standing m → OneLine f (recorded setting bytes) buf
+a-line-is-a-line f format ok setting small lend long first room {buf = buf} m whole =
     let l = line-stands m whole in
     record {
       before = l .before;
       line = lineIn buf;
-      last = sym (of-the-bytes f format ok lend long first room m) ∙ l .all;
+      last = sym (of-the-bytes f format ok setting small lend long first room m) ∙ l .all;
       stands = refl;
       joined = λ channel out e i h. joined-pixel f channel buf out e i h;
     }

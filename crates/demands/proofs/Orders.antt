@@ -144,7 +144,7 @@ orders = record {
   format-of = λ f. record { by-table = refl; given = simp (refused-when, first-zero) refl };
   step = λ register. record { by-table = refl; given = sym (first-zero _) };
   put-sync = λ f given. record { by-table = refl; given = simp (refused-when, first-zero) refl };
-  read = λ f s given. record { by-table = refl; given = simp (refused-when, first-zero) refl };
+  read = λ f k s given. record { by-table = refl; given = simp (refused-when, first-zero) refl };
   write-line = λ f long given. record { by-table = refl; given = simp (refused-when, first-zero) refl };
   accepted = λ f line n. record { by-table = refl; given = simp (refused-when, first-assoc, first-zero) refl };
   answers = λ f given. record { by-table = refl; given = simp (refused-when, first-zero) refl };

@@ -1,85 +1,42 @@
 -- DEMAND 2, THE ROUND TRIP: the plain definition finds in the recording of any run of plain lines in one format exactly
--- those lines, in order (`round-trip`). The same amid other bits: before the first line any that with SYNC behind them hold
+-- those lines, in order, at each setting below 9 (`round-trip`). The same amid other bits: before the first line any that with SYNC behind them hold
 -- no earlier tail, behind the last any in which no line is complete (`round-trip-amid`). Assumes nothing.
-use mathlib.Core.Bool.{Bool, true, false}
 use mathlib.Core.List.{List, [], _∷_, _++_, map, append-nil}
-use mathlib.Core.Logic.{_≢_}
 use mathlib.Core.Path.{_≡_, refl, sym, ap, ap₂, _∙_}
-use Prim.Native.Nat.{ℕ, zero, _+_, _-_, _*_, _≤_, _<_}
+use Prim.Native.Nat.{ℕ, _-_, _*_, _≤_, _<_}
 use native.Mathlib.Omega.{arith}
 use lib.Dec.{lit<}
-use lib.ListN.{length, take, drop, length-append, length-replicate}
-use lib.Seq.{take-all, drop-append-add}
+use lib.ListN.{length, take}
+use lib.Seq.{take-all}
 use Rattle.bits.specs.Bits.{packedOf, bitsOf}
 use Rattle.bits.proofs.Bytes.{length-bits, bits-below, bits-append}
 use Rattle.bits.proofs.Fields.{packed-fields}
 use Rattle.formats.specs.Formats.{formatOf, informationBits, lineBytes}
 use Rattle.formats.specs.declared.Format.{Format}
 use Rattle.formats.specs.declared.FormatAnswer.the-variants.{Is}
-use Rattle.formats.proofs.Which.{either}
-use Rattle.scramble.specs.Sync.{SYNC, fifteenOnes, tail}
+use Rattle.scramble.specs.Sync.{SYNC, fifteenOnes}
 use Rattle.wire.specs.Parts.{informationOf, lineOf, dummyOf}
 use Rattle.scramble.proofs.Wire.{length-wire}
 use Rattle.wire.proofs.Wire.{line-back}
-use Rattle.fixed.specs.Written.{firstSearched, nextSearched}
-use Rattle.fixed.proofs.Sync.{length-sync, tail-ends}
-use Rattle.fixed.proofs.Windows.{earlier-not-tail}
 use Rattle.reader_bits.specs.Lines.{windowBits, isTail, lines, recorded}
-use Rattle.reader_bits.proofs.TailTest.{tail-only, tail-itself}
 use Rattle.writer.specs.Wire.{onWire, wireBytes}
 use Rattle.writer.proofs.Ways.{wire-whole, on-wire-below}
 use Rattle.demands.specs.RoundTrip.{PlainLine, PlainLines, recordingOf}
-use Rattle.demands.proofs.Run.{Leads, found-none, runOf, Back, run-found}
+use Rattle.demands.proofs.Guarded.{some-bits, LeadsTail, Guarded, leading-leads, near-leading, same-near, sync-guarded, dummy-guarded, dummy-short}
+use Rattle.demands.proofs.Run.{found-none, runOf, Back, run-found}
 
--- ---- the test of document 01
+-- ---- what is written leads to its tails, at each setting below nine
 
-not-tail : (w : List ℕ) → w ≢ tail → isTail w ≡ false
-not-tail w ne = go (isTail w) refl
-  where
-    go : (t : Bool) → isTail w ≡ t → t ≡ false
-    go true e = absurd (ne (tail-only w e))
-    go false e = refl
+unwronged : (setting : ℕ) → setting < 9 → (sent : List ℕ) → Guarded sent → LeadsTail setting (length sent - 64) sent
+unwronged setting below sent g = leading-leads setting sent sent g (near-leading setting sent sent g (same-near setting below sent))
 
-pub some-bits : zero < windowBits
-some-bits = lit< tt
+pub sync-leads : (n : ℕ) (f : Format) → formatOf n ≡ Is f → (setting : ℕ) → setting < 9 → LeadsTail setting (length (SYNC (f .sync)) - 64) (SYNC (f .sync))
+sync-leads n f e setting below = unwronged setting below (SYNC (f .sync)) (sync-guarded n f e)
 
--- ---- what is written leads to its tails
-
-abbrev pub LeadsTail : ℕ → List ℕ → Type 0
-LeadsTail = Leads windowBits isTail some-bits
-
-long-enough : (n : ℕ) (f : Format) → formatOf n ≡ Is f → 64 ≤ f .sync
-long-enough = either (λ f. 64 ≤ f .sync) (lib.Dec.lit≤ tt) (lib.Dec.lit≤ tt)
-
-sync-tail : (f : Format) → 64 ≤ f .sync → drop (f .sync - 64) (SYNC (f .sync)) ≡ tail
-sync-tail f h = let e : f .sync ≡ f .sync - 64 + 64 = omega arith in ap (λ (k : ℕ). drop (f .sync - 64) (SYNC k)) e ∙ tail-ends (f .sync - 64)
-
-length-dummy : (f : Format) → length (dummyOf informationBits (f .dummy)) ≡ f .dummy
-unfolding dummyOf
-length-dummy f = length-wire informationBits _ _ ∙ length-replicate (f .dummy) 0
-
-pub sync-leads : (n : ℕ) (f : Format) → formatOf n ≡ Is f → LeadsTail (f .sync - 64) (SYNC (f .sync))
-unfolding firstSearched
-sync-leads n f e =
-    let h = long-enough n f e in
-    record {
-      long = length-sync (f .sync) ∙ omega arith;
-      none-before = λ k lt. not-tail (take 64 (drop k (SYNC (f .sync)))) (earlier-not-tail n f e .before-first k (omega arith));
-      at-last = ap isTail (sync-tail f h) ∙ tail-itself;
-    }
-
-pub dummy-leads : (n : ℕ) (f : Format) → formatOf n ≡ Is f → LeadsTail (f .dummy + (f .sync - 64)) (dummyOf informationBits (f .dummy) ++ SYNC (f .sync))
-unfolding nextSearched
-dummy-leads n f e =
-    let h = long-enough n f e in
-    let d : List ℕ = dummyOf informationBits (f .dummy) in
-    let behind : drop (f .dummy + (f .sync - 64)) (d ++ SYNC (f .sync)) ≡ tail =
-    ap (λ (k : ℕ). drop (k + (f .sync - 64)) (d ++ SYNC (f .sync))) (sym (length-dummy f)) ∙ drop-append-add d (SYNC (f .sync)) (f .sync - 64) ∙ sync-tail f h in
-    record {
-      long = length-append d (SYNC (f .sync)) ∙ ap₂ (λ (x y : ℕ). x + y) (length-dummy f) (length-sync (f .sync)) ∙ omega arith;
-      none-before = λ k lt. not-tail (take 64 (drop k (d ++ SYNC (f .sync)))) (earlier-not-tail n f e .before-next k (omega arith));
-      at-last = ap isTail behind ∙ tail-itself;
-    }
+pub dummy-leads : (n : ℕ) (f : Format) → formatOf n ≡ Is f → (setting : ℕ) → setting < 9
+    → LeadsTail setting (length (dummyOf informationBits (f .dummy) ++ SYNC (f .sync)) - 64) (dummyOf informationBits (f .dummy) ++ SYNC (f .sync))
+dummy-leads n f e setting below =
+    unwronged setting below (dummyOf informationBits (f .dummy) ++ SYNC (f .sync)) (dummy-guarded n f e)
 
 -- ---- the recording, in bits
 
@@ -94,12 +51,12 @@ wire-bits n f l e p =
     ∙ take-all (f .bytes * 8) (onWire f (bitsOf (take lineBytes l))) (omega arith)
     ∙ ap (λ (x : List ℕ). onWire f (bitsOf x)) all
 
-module _ (n : ℕ) (f : Format) (e : formatOf n ≡ Is f) where
+module _ (n : ℕ) (f : Format) (e : formatOf n ≡ Is f) (setting : ℕ) (below : setting < 9) where
   abbrev dummy : List ℕ
   dummy = dummyOf informationBits (f .dummy)
 
   abbrev run : List (List ℕ) → List ℕ
-  run ls = runOf windowBits isTail some-bits informationBits lineOf (SYNC (f .sync)) dummy informationOf ls
+  run ls = runOf windowBits (isTail setting) some-bits informationBits lineOf (SYNC (f .sync)) dummy informationOf ls
 
   recording-bits : (ls : List (List ℕ)) → PlainLines ls → bitsOf (recordingOf f ls) ≡ run (map bitsOf ls)
   unfolding recordingOf PlainLines runOf onWire
@@ -109,37 +66,34 @@ module _ (n : ℕ) (f : Format) (e : formatOf n ≡ Is f) where
       ∙ ap₂ (λ (x y : List ℕ). x ++ y) (wire-bits n f l e (p .0)) (recording-bits ls (p .1))
 
   -- a line is as long as it should be, and comes back
-  comes-back : (ls : List (List ℕ)) → PlainLines ls → Back windowBits isTail some-bits informationBits lineOf (SYNC (f .sync)) dummy informationOf (map bitsOf ls)
+  comes-back : (ls : List (List ℕ)) → PlainLines ls → Back windowBits (isTail setting) some-bits informationBits lineOf (SYNC (f .sync)) dummy informationOf (map bitsOf ls)
   unfolding PlainLines Back informationOf
   comes-back [] p = tt
   comes-back (l ∷ ls) p =
       (length-wire 0 fifteenOnes (bitsOf l) ∙ length-bits l ∙ ap (λ (k : ℕ). 8 * k) (p .0 .long), line-back (bitsOf l) (bits-below l), comes-back ls (p .1))
 
   -- AMID OTHER BITS
-  pub round-trip-amid : (p : ℕ) (first last l : List ℕ) (ls : List (List ℕ)) → LeadsTail p (first ++ SYNC (f .sync)) → lines (dummy ++ last) ≡ []
-      → PlainLines (l ∷ ls) → lines (first ++ (bitsOf (recordingOf f (l ∷ ls)) ++ last)) ≡ map bitsOf (l ∷ ls)
+  pub round-trip-amid : (p : ℕ) (first last l : List ℕ) (ls : List (List ℕ)) → LeadsTail setting p (first ++ SYNC (f .sync)) → lines setting (dummy ++ last) ≡ []
+      → PlainLines (l ∷ ls) → lines setting (first ++ (bitsOf (recordingOf f (l ∷ ls)) ++ last)) ≡ map bitsOf (l ∷ ls)
   unfolding lines
   round-trip-amid p first last l ls lead none plain =
-      ap (λ (x : List ℕ). lines (first ++ (x ++ last))) (recording-bits (l ∷ ls) plain)
-      ∙ run-found windowBits isTail some-bits informationBits lineOf (SYNC (f .sync)) dummy informationOf last (f .dummy + (f .sync - 64)) (dummy-leads n f e) none
+      ap (λ (x : List ℕ). lines setting (first ++ (x ++ last))) (recording-bits (l ∷ ls) plain)
+      ∙ run-found windowBits (isTail setting) some-bits informationBits lineOf (SYNC (f .sync)) dummy informationOf last (length (dummy ++ SYNC (f .sync)) - 64) (dummy-leads n f e setting below) none
       p first (bitsOf l) (map bitsOf ls) lead (comes-back (l ∷ ls) plain)
 
   -- the dummy alone is too short for a line
-  pub dummy-none : lines (dummy ++ []) ≡ []
+  pub dummy-none : lines setting (dummy ++ []) ≡ []
   unfolding lines
   dummy-none =
-      ap lines (append-nil dummy) ∙ found-none windowBits isTail some-bits informationBits lineOf dummy (rw (length-dummy f) (short n f e))
-    where
-      short : (n : ℕ) (f : Format) → formatOf n ≡ Is f → f .dummy < informationBits
-      short = either (λ f. f .dummy < informationBits) (lit< tt) (lit< tt)
+      ap (lines setting) (append-nil dummy) ∙ found-none windowBits (isTail setting) some-bits informationBits lineOf dummy (dummy-short n f e)
 
   -- THE ROUND TRIP
-  pub round-trip : (ls : List (List ℕ)) → PlainLines ls → recorded (recordingOf f ls) ≡ map bitsOf ls
+  pub round-trip : (ls : List (List ℕ)) → PlainLines ls → recorded setting (recordingOf f ls) ≡ map bitsOf ls
   unfolding recorded
   round-trip [] plain = none plain
     where
-      none : PlainLines [] → lines (bitsOf (recordingOf f [])) ≡ map bitsOf []
-      none p = unfold recordingOf bitsOf packedOf lines in found-none windowBits isTail some-bits informationBits lineOf [] (lit< tt)
+      none : PlainLines [] → lines setting (bitsOf (recordingOf f [])) ≡ map bitsOf []
+      none p = unfold recordingOf bitsOf packedOf lines in found-none windowBits (isTail setting) some-bits informationBits lineOf [] (lit< tt)
   round-trip (l ∷ ls) plain =
-      ap lines (sym (append-nil (bitsOf (recordingOf f (l ∷ ls)))))
-      ∙ round-trip-amid (f .sync - 64) [] [] l ls (sync-leads n f e) dummy-none plain
+      ap (lines setting) (sym (append-nil (bitsOf (recordingOf f (l ∷ ls)))))
+      ∙ round-trip-amid (length (SYNC (f .sync)) - 64) [] [] l ls (sync-leads n f e setting below) dummy-none plain

@@ -33,8 +33,8 @@ Step register r x = StepOk register r × (x ≡ registerLeft register)
 abbrev pub PutSync : ℕ → List ℕ → SyncPut → List ℕ → Type 0
 PutSync f out r x = PutSyncOk f out r × (x ≡ putSyncLeft f out)
 
-abbrev pub Read : ℕ → State → List ℕ → List ℕ → Answer → List ℕ → Type 0
-Read f s piece line r x = ReadOk f s piece line r × (x ≡ readLeft f s piece line)
+abbrev pub Read : ℕ → ℕ → State → List ℕ → List ℕ → Answer → List ℕ → Type 0
+Read f k s piece line r x = ReadOk f k s piece line r × (x ≡ readLeft f k s piece line)
 
 abbrev pub WriteLine : ℕ → List ℕ → List ℕ → Written → List ℕ → Type 0
 WriteLine f line out r x = WriteLineOk f line out r × (x ≡ writeLineLeft f line out)

@@ -6,3 +6,4 @@ pub mod OneLine
 pub mod Demand3
 pub mod Contracts
 pub mod Unique
+pub mod Iced

@@ -16,7 +16,7 @@ use Rattle.scramble.specs.Step.{stepRefusal}
 use Rattle.sync.specs.Put.{putSyncRefusal}
 use Rattle.reader_record.specs.Records.{possibleOf}
 use Rattle.reader_record.specs.declared.State.{State}
-use Rattle.reader.specs.Read.{readRefusal}
+use Rattle.reader.specs.Read.{largestSetting, readRefusal}
 use Rattle.writer.specs.Wire.{writeLineRefusal}
 use Rattle.sectors.specs.declared.layout.Layout.{Layout}
 use Rattle.sectors.specs.Layout.{layoutOf, bytesOf}
@@ -119,7 +119,7 @@ pub record Orders : Type 0 where
   -- `stepped` and `step`
   pub step : (register : ℕ) → Gives (stepRefusal register) ((12, ltb fifteenOnes register) ∷ [])
   pub put-sync : (f given : ℕ) → Gives (putSyncRefusal f given) (formatTest f ∷ (3, ltb given (namedBy f .sync / 8)) ∷ [])
-  pub read : (f : ℕ) (s : State) (given : ℕ) → Gives (readRefusal f s given) (formatTest f ∷ (12, not (possibleOf s)) ∷ (2, ltb given lineBytes) ∷ [])
+  pub read : (f k : ℕ) (s : State) (given : ℕ) → Gives (readRefusal f k s given) (formatTest f ∷ (13, outside 0 largestSetting k) ∷ (12, not (possibleOf s)) ∷ (2, ltb given lineBytes) ∷ [])
   pub write-line : (f long given : ℕ) → Gives (writeLineRefusal f long given) (formatTest f ∷ (2, ltb long lineBytes) ∷ (3, ltb given (namedBy f .bytes)) ∷ [])
   pub accepted : (f : ℕ) (line : List ℕ) (n : ℕ) → Gives (acceptedAnswer f line n) (sectorTests 1 12 f line n ++ checkTests f (layoutOf n) line)
   pub answers : (f given : ℕ) → Gives (answersRefusal f given) (formatTest f ∷ (2, ltb given lineBytes) ∷ [])

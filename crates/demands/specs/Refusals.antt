@@ -46,7 +46,7 @@ pub record Refusals : Type 0 where
   pub stepped : (register : ℕ) (r : StepTaken) → StepOk register (r .answer) × (r .next .bits ≡ registerLeft register) → Refuses (stepNumber (r .answer)) → r .next .bits ≡ register
   pub step : (register : ℕ) → Keeps stepNumber (Step register) register
   pub put-sync : (f : ℕ) (out : List ℕ) → Keeps syncNumber (PutSync f out) out
-  pub read : (f : ℕ) (s : State) (piece line : List ℕ) (r : Answer) (x : List ℕ) → Read f s piece line r x → Refuses (refusalOf r) → Untouched s line r x
+  pub read : (f k : ℕ) (s : State) (piece line : List ℕ) (r : Answer) (x : List ℕ) → Read f k s piece line r x → Refuses (refusalOf r) → Untouched s line r x
   pub write-line : (f : ℕ) (line out : List ℕ) → Keeps writtenNumber (WriteLine f line out) out
   pub data-of : (f : ℕ) (line : List ℕ) (sector : ℕ) (out : List ℕ) → Keeps itself (Data f line sector out) out
   pub pixels : (lo hi f : ℕ) (line : List ℕ) (sector : ℕ) (out : List ℕ) → Keeps itself (Pixels lo hi f line sector out) out

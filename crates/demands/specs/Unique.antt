@@ -50,7 +50,7 @@ pub record Unique : Type 0 where
   pub put-sync : (f : ℕ) (out : List ℕ) → OneWith (PutSync f out)
   -- recordings
   pub fresh : One (λ (r : State). r ≡ freshState)
-  pub read : (f : ℕ) (s : State) (piece line : List ℕ) → OneWith (Read f s piece line)
+  pub read : (f k : ℕ) (s : State) (piece line : List ℕ) → OneWith (Read f k s piece line)
   pub write-line : (f : ℕ) (line out : List ℕ) → OneWith (WriteLine f line out)
   -- one plain line
   pub accepted : (f : ℕ) (line : List ℕ) (sector : ℕ) → One (λ (r : ℕ). r ≡ acceptedAnswer f line sector)

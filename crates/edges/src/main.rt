@@ -2,7 +2,8 @@
 // of output for each. The expected lines in `stdout` follow from document 01, and not from a run of this program.
 //
 // A recording here is noise of one byte, tails where the edge has them, and information bits that are the noise too. With
-// noise of zeros the plain line opens with the scrambling bytes after SYNC, every second one inverted: 00 FD 00 F3.
+// noise of zeros the plain line opens with the scrambling bytes after SYNC, every second one inverted: 00 FD 00 F3. Where
+// the line's first bits are those of a tail, they are information bits like any others, and it opens 4B 46 B9 6A.
 ghost use Prim.Native.Nat.{_≤_, _<_};
 ghost use lib.ListN.{length};
 use reader::Answer;
@@ -45,6 +46,27 @@ fn put_tail(rec: &mut [u8; SPACE], at: usize)
     slice_writer::put_field(rec, at + 48, 16, 0x7fff);
 }
 
+// The tail at the recording's first bit with wrong bits: its last one; or three, the first, one within and the last; or its first
+// three with the last three, or with the last four.
+fn put_wrong(rec: &mut [u8; SPACE], wrong: u8) {
+    put_tail(rec, 0);
+    match wrong {
+        1 => put_ends(rec, 0x4bbb, 0x7ffe),
+        3 => {
+            put_ends(rec, 0xcbbb, 0x7ffe);
+            slice_writer::put_field(rec, 16, 16, 0xb998);
+        }
+        6 => put_ends(rec, 0xabbb, 0x7ff8),
+        _ => put_ends(rec, 0xabbb, 0x7ff0),
+    }
+}
+
+// The first and the last sixteen bits of it.
+fn put_ends(rec: &mut [u8; SPACE], first: u16, last: u16) {
+    slice_writer::put_field(rec, 0, 16, first);
+    slice_writer::put_field(rec, 48, 16, last);
+}
+
 // The end of a piece of at most size bytes.
 fn end_of(at: usize, size: usize, all: usize) -> usize
     requires { ⌜ at ≤ all ⌝ }
@@ -84,7 +106,7 @@ fn after(r: Run, a: Answer, all: usize) -> Run
 }
 
 // One call, on the next piece of at most size bytes.
-fn turn(r: Run, rec: &[u8], size: usize, line: &mut [u8; LINE]) -> Run
+fn turn(r: Run, setting: u8, rec: &[u8], size: usize, line: &mut [u8; LINE]) -> Run
     requires { ⌜ r .at ≤ length (now rec) ⌝ }
     ensures { λ o. ⌜ o .at ≤ length (now (rec .entry)) ⌝ }
 {
@@ -93,12 +115,12 @@ fn turn(r: Run, rec: &[u8], size: usize, line: &mut [u8; LINE]) -> Run
         return r;
     }
     let end = end_of(at, size, rec.len());
-    let a = reader::read(1, r.state, &rec[at..end], line);
+    let a = reader::read(1, setting, r.state, &rec[at..end], line);
     after(r, a, rec.len())
 }
 
 // A fresh reader over a recording in pieces of at most size bytes, each unread rest offered again.
-fn drive(rec: &[u8], size: usize, line: &mut [u8; LINE]) -> Run {
+fn drive(setting: u8, rec: &[u8], size: usize, line: &mut [u8; LINE]) -> Run {
     let mut r = Run {
         at: 0,
         state: reader_record::fresh(),
@@ -108,21 +130,29 @@ fn drive(rec: &[u8], size: usize, line: &mut [u8; LINE]) -> Run {
     };
     let mut turns: usize = 50000;
     while turns > 0 {
-        r = turn(r, rec, size, line);
+        r = turn(r, setting, rec, size, line);
         turns -= 1;
     }
     r
 }
 
-// The first bytes of a recording, read in pieces of at most size bytes, and what was seen.
+// The first bytes of a recording, read in pieces of at most size bytes, and what was seen; at setting 0, and at another.
 fn edge(name: &[u8], rec: &[u8; SPACE], bytes: usize, size: usize) {
-    seen(text::empty().words(name), rec, bytes, size);
+    seen(text::empty().words(name), 0, rec, bytes, size);
 }
 
-fn seen(name: Row, rec: &[u8], bytes: usize, size: usize) {
+fn edge_at(name: &[u8], setting: u8, rec: &[u8; SPACE], bytes: usize, size: usize) {
+    let row = text::empty()
+        .words(name)
+        .words(b" at setting ")
+        .number(setting as u64);
+    seen(row, setting, rec, bytes, size);
+}
+
+fn seen(name: Row, setting: u8, rec: &[u8], bytes: usize, size: usize) {
     let end = end_of(0, bytes, rec.len());
     let mut line = [7u8; LINE];
-    let r = drive(&rec[..end], size, &mut line);
+    let r = drive(setting, &rec[..end], size, &mut line);
     let row = name.words(b": lines ").number(r.lines);
     if r.lines > 0 {
         last(row, r, &line).write();
@@ -170,10 +200,10 @@ fn taken(a: Answer) -> usize {
     }
 }
 
-// The refusal of a call with nothing to read, in a format, with a record and a buffer that is lent.
-fn told(name: &[u8], format: u8, s: State, line: &mut [u8]) {
+// The refusal of a call with nothing to read, in a format, at a setting, with a record and a buffer that is lent.
+fn told(name: &[u8], format: u8, setting: u8, s: State, line: &mut [u8]) {
     let none = [0u8; 1];
-    let a = reader::read(format, s, &none[..0], line);
+    let a = reader::read(format, setting, s, &none[..0], line);
     text::empty()
         .words(name)
         .words(b": refusal ")
@@ -181,15 +211,19 @@ fn told(name: &[u8], format: u8, s: State, line: &mut [u8]) {
         .write();
 }
 
-// With a buffer of 44,356 bytes, and of one less.
+// With a buffer of 44,356 bytes, at setting 0 and at another; and of one byte less.
 fn asked(name: &[u8], format: u8, s: State) {
-    let mut line = [0u8; LINE];
-    told(name, format, s, &mut line);
+    asked_at(name, format, 0, s);
 }
 
-fn asked_short(name: &[u8], format: u8, s: State) {
+fn asked_at(name: &[u8], format: u8, setting: u8, s: State) {
+    let mut line = [0u8; LINE];
+    told(name, format, setting, s, &mut line);
+}
+
+fn asked_short(name: &[u8], format: u8, setting: u8, s: State) {
     let mut line = [0u8; 44355];
-    told(name, format, s, &mut line);
+    told(name, format, setting, s, &mut line);
 }
 
 // A record between lines, and one in a line, with the fields that an edge has.
@@ -267,6 +301,7 @@ fn lines_at_edges() {
 fn offset(o: usize, rec: &[u8; SPACE]) {
     seen(
         text::empty().words(b"offset ").number(o as u64),
+        0,
         rec,
         44365,
         SPACE,
@@ -284,11 +319,47 @@ fn offsets() {
     }
 }
 
+// Tails with wrong bits, on both sides of the setting; and one in front of the exact tail, which is the first and wins.
+fn tails_at_edges() {
+    let mut rec = [0u8; SPACE];
+    put_wrong(&mut rec, 3);
+    edge_at(b"a tail with 3 wrong bits", 2, &rec, SPACE, SPACE);
+    edge_at(b"a tail with 3 wrong bits", 3, &rec, SPACE, SPACE);
+    edge_at(
+        b"a tail with 3 wrong bits, one-byte pieces,",
+        3,
+        &rec,
+        44364,
+        1,
+    );
+    put_wrong(&mut rec, 6);
+    edge_at(b"a tail with 6 wrong bits", 5, &rec, SPACE, SPACE);
+    edge_at(b"a tail with 6 wrong bits", 6, &rec, SPACE, SPACE);
+    put_wrong(&mut rec, 7);
+    edge_at(b"a tail with 7 wrong bits", 6, &rec, SPACE, SPACE);
+    put_wrong(&mut rec, 1);
+    put_tail(&mut rec, 64);
+    edge_at(
+        b"a tail with a wrong bit before the tail",
+        0,
+        &rec,
+        SPACE,
+        SPACE,
+    );
+    edge_at(
+        b"a tail with a wrong bit before the tail",
+        1,
+        &rec,
+        SPACE,
+        SPACE,
+    );
+}
+
 // An empty piece.
 fn nothing() {
     let none = [0u8; 1];
     let mut line = [0u8; LINE];
-    let a = reader::read(1, reader_record::fresh(), &none[..0], &mut line);
+    let a = reader::read(1, 0, reader_record::fresh(), &none[..0], &mut line);
     text::empty()
         .words(b"empty piece: taken ")
         .number(taken(a) as u64)
@@ -302,7 +373,7 @@ fn refusals() {
     asked(b"format 1", 1, s);
     asked(b"format 2", 2, s);
     asked(b"format 3", 3, s);
-    asked_short(b"buffer 44355", 1, s);
+    asked_short(b"buffer 44355", 1, 0, s);
     asked(b"buffer 44356", 1, s);
     asked(b"position 354847", 1, reading(354847, 32767, 0, 7, 0));
     asked(b"position 354848", 1, reading(354848, 32767, 0, 0, 0));
@@ -326,6 +397,7 @@ fn refusals() {
     asked_short(
         b"impossible record and short buffer",
         1,
+        0,
         reading(0, 32768, 0, 0, 0),
     );
     asked(
@@ -333,11 +405,22 @@ fn refusals() {
         3,
         reading(0, 32768, 0, 0, 0),
     );
+    asked_at(b"setting 6", 1, 6, s);
+    asked_at(b"setting 7", 1, 7, s);
+    asked_at(b"unknown format and setting 7", 3, 7, s);
+    asked_at(
+        b"setting 7 and impossible record",
+        1,
+        7,
+        reading(0, 32768, 0, 0, 0),
+    );
+    asked_short(b"setting 7 and short buffer", 1, 7, s);
 }
 
 fn main() {
     lines_at_edges();
     offsets();
+    tails_at_edges();
     nothing();
     refusals();
     entries_at_edges::all();

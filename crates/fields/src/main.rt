@@ -1,4 +1,4 @@
-// fields [-2] [FILE]: what the documentation sectors of a recording say. USAGE says what its words are and what it writes.
+// fields [-2] [-s K] [FILE]: what the documentation sectors of a recording say. USAGE says what its words are and what it writes.
 //
 // What the numbers are is proved of `document`, `document_stamps`, `segments`, `entries` and `calibration`; of its own functions
 // it is proved that they are safe and end.
@@ -6,9 +6,10 @@ mod blocks_at_end;
 mod five;
 mod line;
 
-const USAGE: [u8; 846] = *b"usage: fields [-2] [FILE]
+const USAGE: [u8; 951] = *b"usage: fields [-2] [-s K] [FILE]
 Says what the documentation sectors of a recording hold: of FILE, or of standard input where FILE is - or left out.
-  -2   the recording is HiRID, format 2; else it is S-VISSR 2.0, format 1
+  -2     the recording is HiRID, format 2; else it is S-VISSR 2.0, format 1
+  -s K   up to K of the 64 bits of a line's tail may be wrong, K 0 to 6; 0 where it is left out
 It writes for each line, counted from 1
   line N mode M mirror R set A reset B count C position P date D segment S repeat T blocks a b c d e
 mode full, limited or single; mirror 1-A, 1-B, 2-A or 2-B; set line, reset line, scan count and line position; date and

@@ -5,9 +5,10 @@ use mathlib.Core.Logic.{_≢_}
 use mathlib.Core.List.{List, [], _∷_}
 use Prim.Native.Nat.{ℕ, zero, suc, _+_, _≤_, _<_, zero-le, suc-le-suc}
 use native.Mathlib.Nat.{le-of-suc-le-suc, not-suc-le-zero, zero-add, suc-add}
-use lib.Dec.{T, eqb, eqb-refl}
+use lib.Dec.{T, eqb}
 use lib.ListN.{length, take, drop}
 use Rattle.bits.specs.Bits.{apart}
+use Rattle.bits.proofs.Distance.{apart-self}
 use Rattle.fixed.proofs.Every.{first, second}
 
 -- the sequence starts with one that differs from t in d places or more
@@ -48,15 +49,6 @@ unfolding apart
 apart-take [] l = refl
 apart-take (y ∷ t) [] = refl
 apart-take (y ∷ t) (x ∷ l) = ap (λ (a : ℕ). cond (eqb x y) a (suc a)) (apart-take t l)
-
-pub apart-self : (t : List ℕ) → apart t t ≡ zero
-unfolding apart
-apart-self [] = refl
-apart-self (y ∷ t) = go (eqb y y) (eqb-refl y) (apart-self t)
-  where
-    go : (b : Bool) → T b → apart t t ≡ zero → cond b (apart t t) (suc (apart t t)) ≡ zero
-    go true h e = e
-    go false h e = absurd h
 
 -- at each of the first n places what stands there differs from t in d places or more
 pub clear-apart : (n : ℕ) (t : List ℕ) (d : ℕ) (l : List ℕ) → T (clear n t d l) → (k : ℕ) → k < n → d ≤ apart t (take (length t) (drop k l))

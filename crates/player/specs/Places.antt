@@ -6,8 +6,9 @@ use Rattle.reader_record.specs.Records.{freshState}
 use Rattle.player.specs.declared.Player.{Player}
 
 -- a recording before its first byte
-abbrev pub started : ℤ → ℕ → Player
-started fd format = record { fd = fd; format = format; state = freshState; from = 0; to = 0; whole = false; more = true; failed = false }
+abbrev pub started : ℤ → ℕ → ℕ → Player
+started fd format setting =
+    record { fd = fd; format = format; setting = setting; state = freshState; from = 0; to = 0; whole = false; more = true; failed = false }
 
 pub record Places (p : Player) : Type 0 where
   pub order : p .from ≤ p .to

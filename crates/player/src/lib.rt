@@ -12,15 +12,17 @@ ghost use Rattle.player.specs.Places.{Places, started};
 use libc::STDIN_FILENO;
 use reader::Answer;
 use reader_record::State;
+use words::Takes;
 
 // The bytes of one piece.
 pub const PIECE: usize = 65536;
 
-// Where the playing stands: the file, the format, the reader's record, the bytes of the piece that are still to read, and
+// Where the playing stands: the file, the format, the setting, the reader's record, the bytes of the piece that are still to read, and
 // whether a line is complete (whole), the recording is at its end (not more), and that is not its own end (failed).
 pub struct Player {
     pub fd: i32,
     pub format: u8,
+    pub setting: u8,
     pub state: State,
     pub from: usize,
     pub to: usize,
@@ -30,12 +32,13 @@ pub struct Player {
 }
 
 // A recording from its first byte.
-pub fn start(fd: i32, format: u8) -> Player
-    ensures { λ r. ⌜ r ≡ started fd format ⌝ }
+pub fn start(fd: i32, format: u8, setting: u8) -> Player
+    ensures { λ r. ⌜ r ≡ started fd format setting ⌝ }
 {
     Player {
         fd: fd,
         format: format,
+        setting: setting,
         state: reader_record::fresh(),
         from: 0,
         to: 0,
@@ -53,6 +56,7 @@ fn moved(p: Player, state: State, from: usize, to: usize, whole: bool, more: boo
     Player {
         fd: p.fd,
         format: p.format,
+        setting: p.setting,
         state: state,
         from: from,
         to: to,
@@ -70,6 +74,7 @@ fn broken(p: Player) -> Player
     Player {
         fd: p.fd,
         format: p.format,
+        setting: p.setting,
         state: state,
         from: 0,
         to: 0,
@@ -117,7 +122,7 @@ fn step(p: Player, piece: &[u8], line: &mut [u8]) -> Player
     if piece.len() < to {
         return moved(p, before, 0, 0, false, false);
     }
-    match reader::read(p.format, before, &piece[from..to], line) {
+    match reader::read(p.format, p.setting, before, &piece[from..to], line) {
         Answer::Refused(k) => {
             text::empty().words(b"the reader").refused(k).tell();
             broken(p)
@@ -175,11 +180,11 @@ fn turn(p: Player, piece: &mut [u8; PIECE], line: &mut [u8]) -> Player
 fn none() -> Player
     ensures { λ r. ⌜ Places r ⌝ }
 {
-    broken(start(STDIN_FILENO, 1))
+    broken(start(STDIN_FILENO, 1, 0))
 }
 
 // A recording of a name, which tells it where its first piece cannot be read: a folder opens as a file does.
-fn begun(fd: i32, format: u8, name: &[u8], piece: &mut [u8; PIECE]) -> Player
+fn begun(fd: i32, format: u8, setting: u8, name: &[u8], piece: &mut [u8; PIECE]) -> Player
     ensures { λ r. ⌜ Places r ⌝ }
 {
     let got = libc::read(fd, piece);
@@ -187,22 +192,22 @@ fn begun(fd: i32, format: u8, name: &[u8], piece: &mut [u8; PIECE]) -> Player
         os::fail(name);
         return none();
     }
-    brought(start(fd, format), got, piece)
+    brought(start(fd, format, setting), got, piece)
 }
 
-fn standard(format: u8, piece: &mut [u8; PIECE]) -> Player
+fn standard(format: u8, setting: u8, piece: &mut [u8; PIECE]) -> Player
     ensures { λ r. ⌜ Places r ⌝ }
 {
-    begun(STDIN_FILENO, format, b"standard input", piece)
+    begun(STDIN_FILENO, format, setting, b"standard input", piece)
 }
 
 // The recording of a file; standard input where its name is a minus sign.
-fn of_file(name: &[u8], format: u8, piece: &mut [u8; PIECE]) -> Player
+fn of_file(name: &[u8], format: u8, setting: u8, piece: &mut [u8; PIECE]) -> Player
     ensures { λ r. ⌜ Places r ⌝ }
 {
     if name.len() == 1 {
         if name[0] == b'-' {
-            return standard(format, piece);
+            return standard(format, setting, piece);
         }
     }
     let fd = os::open_read(name);
@@ -210,31 +215,39 @@ fn of_file(name: &[u8], format: u8, piece: &mut [u8; PIECE]) -> Player
         os::fail(name);
         return none();
     }
-    begun(fd, format, name, piece)
+    begun(fd, format, setting, name, piece)
 }
 
 // The file that the word at a place names.
-fn of_word(place: usize, format: u8, piece: &mut [u8; PIECE]) -> Player
+fn of_word(place: usize, format: u8, setting: u8, piece: &mut [u8; PIECE]) -> Player
     ensures { λ r. ⌜ Places r ⌝ }
 {
     let mut name = io::buffer();
     let n = os::arg(place, &mut name);
-    of_file(&name[..n], format, piece)
+    of_file(&name[..n], format, setting, piece)
 }
 
-// The recording that the words ask for, [-2] [FILE] in any order, with its first piece. Not more where they are not served, help
-// is asked for, or the file cannot be read; that is then told, with the usage text where it is the words.
+// The recording that the words ask for, [-2] [-s K] [FILE] in any order, with its first piece. Not more where they are not
+// served, help is asked for, or the file cannot be read; that is then told, with the usage text where it is the words.
 pub fn opened(usage: &[u8], piece: &mut [u8; PIECE]) -> Player
     ensures { λ r. ⌜ Places r ⌝ }
 {
-    let asked = command::asked_for(1);
+    let asked = command::asked_for(Takes {
+        names: 1,
+        setting: true,
+    });
     if !command::goes_on(asked, usage) {
         return none();
     }
-    if asked.first == 0 {
-        return standard(asked.format, piece);
+    let setting = command::setting_at(asked.setting);
+    if reader::LARGEST_SETTING < setting {
+        command::refuse_word(b"not a setting, 0 to 6: ", asked.setting, usage);
+        return none();
     }
-    of_word(asked.first, asked.format, piece)
+    if asked.first == 0 {
+        return standard(asked.format, setting, piece);
+    }
+    of_word(asked.first, asked.format, setting, piece)
 }
 
 // Whether the recording was read to its own end. One that stops inside a line is told.

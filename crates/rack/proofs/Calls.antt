@@ -20,12 +20,12 @@ use Rattle.rack.specs.Run.{lentAt}
 use Rattle.rack.proofs.Records.{kept-flag, read-through, line-through}
 
 -- no refusal has the number 0
-refused-some : (f : ℕ) (s : State) (p buf : List ℕ) (n : ℕ) → readAnswer f s p buf ≡ Refused n → zero < n
-refused-some f s p buf =
-    read-cases f s p buf (λ (a : Answer) (b : List ℕ). (n : ℕ) → a ≡ Refused n → zero < n)
+refused-some : (f setting : ℕ) (s : State) (p buf : List ℕ) (n : ℕ) → readAnswer f setting s p buf ≡ Refused n → zero < n
+refused-some f setting s p buf =
+    read-cases f setting s p buf (λ (a : Answer) (b : List ℕ). (n : ℕ) → a ≡ Refused n → zero < n)
     (λ m h n e. let z : m ≡ n = cc in omega arith)
     (λ h l n e. let z : _≡_ {A = ℕ} 0 1 = cc in absurd (omega arith))
-    (λ h m l n e. go (callOf s p buf) n e)
+    (λ h m l n e. go (callOf setting s p buf) n e)
   where
     go : (c : Call Bench) (n : ℕ) → callAnswer c ≡ Refused n → zero < n
     go (more t b m v) n e = let z : _≡_ {A = ℕ} 0 1 = cc in absurd (omega arith)
@@ -54,40 +54,40 @@ unfolding readGiven
 brought false was t s = refl
 brought true was t s = refl
 
-module _ (f : ℕ) (lend : ℕ → List ℕ → List ℕ) where
+module _ (f setting : ℕ) (lend : ℕ → List ℕ → List ℕ) where
   -- the two callers lend the same buffer
   pub lent-same : (k : ℕ) (s : State) (r : ReaderState) (buf : List ℕ) → r ≡ keptOf s → lentAt lend k r buf ≡ lentFor lend k s buf
   lent-same k s r buf e = ap (λ (x : ReaderState). lentAt lend k x buf) e ∙ ap (λ (b : Bool). cond b buf (lend k buf)) (kept-flag s)
 
   -- what the call across the boundary is
   given-same : (k : ℕ) (s : State) (r : ReaderState) (p buf : List ℕ) → r ≡ keptOf s
-      → readOf f r p (lentAt lend k r buf) ≡ readGiven (keptOf s) (readAnswer f s p (lentFor lend k s buf))
-  given-same k s r p buf e = ap (readOf f r p) (lent-same k s r buf e) ∙ ap (λ (x : ReaderState). readOf f x p (lentFor lend k s buf)) e ∙ read-through f s p (lentFor lend k s buf)
+      → readOf f setting r p (lentAt lend k r buf) ≡ readGiven (keptOf s) (readAnswer f setting s p (lentFor lend k s buf))
+  given-same k s r p buf e = ap (readOf f setting r p) (lent-same k s r buf e) ∙ ap (λ (x : ReaderState). readOf f setting x p (lentFor lend k s buf)) e ∙ read-through f setting s p (lentFor lend k s buf)
 
-  pub left-same : (k : ℕ) (s : State) (r : ReaderState) (p buf : List ℕ) → r ≡ keptOf s → lineLeft f r p (lentAt lend k r buf) ≡ readLeft f s p (lentFor lend k s buf)
-  left-same k s r p buf e = ap (lineLeft f r p) (lent-same k s r buf e) ∙ ap (λ (x : ReaderState). lineLeft f x p (lentFor lend k s buf)) e ∙ line-through f s p (lentFor lend k s buf)
+  pub left-same : (k : ℕ) (s : State) (r : ReaderState) (p buf : List ℕ) → r ≡ keptOf s → lineLeft f setting r p (lentAt lend k r buf) ≡ readLeft f setting s p (lentFor lend k s buf)
+  left-same k s r p buf e = ap (lineLeft f setting r p) (lent-same k s r buf e) ∙ ap (λ (x : ReaderState). lineLeft f setting x p (lentFor lend k s buf)) e ∙ line-through f setting s p (lentFor lend k s buf)
 
   pub given-by : (complete : Bool) (k : ℕ) (s : State) (r : ReaderState) (p buf : List ℕ) (t : ℕ) (s′ : State) → r ≡ keptOf s
-      → readAnswer f s p (lentFor lend k s buf) ≡ answerBy complete t s′
-      → readOf f r p (lentAt lend k r buf) ≡ record { refused = 0; complete = complete; taken = t; state = keptOf s′ }
+      → readAnswer f setting s p (lentFor lend k s buf) ≡ answerBy complete t s′
+      → readOf f setting r p (lentAt lend k r buf) ≡ record { refused = 0; complete = complete; taken = t; state = keptOf s′ }
   given-by complete k s r p buf t s′ i e = given-same k s r p buf i ∙ ap (readGiven (keptOf s)) e ∙ brought complete (keptOf s) t s′
 
   -- a call that is not refused, on both sides
   pub record Both (complete : Bool) (k : ℕ) (s : State) (r : ReaderState) (p buf : List ℕ) : Type 0 where
     pub taken : ℕ
     pub after : State
-    pub is : readAnswer f s p (lentFor lend k s buf) ≡ answerBy complete taken after
-    pub took : readOf f r p (lentAt lend k r buf) .taken ≡ taken
-    pub brings : readOf f r p (lentAt lend k r buf) .state ≡ keptOf after
+    pub is : readAnswer f setting s p (lentFor lend k s buf) ≡ answerBy complete taken after
+    pub took : readOf f setting r p (lentAt lend k r buf) .taken ≡ taken
+    pub brings : readOf f setting r p (lentAt lend k r buf) .state ≡ keptOf after
 
   pub both : (complete : Bool) (k : ℕ) (s : State) (r : ReaderState) (p buf : List ℕ) → r ≡ keptOf s
-      → readOf f r p (lentAt lend k r buf) .refused ≡ 0 → readOf f r p (lentAt lend k r buf) .complete ≡ complete → Both complete k s r p buf
+      → readOf f setting r p (lentAt lend k r buf) .refused ≡ 0 → readOf f setting r p (lentAt lend k r buf) .complete ≡ complete → Both complete k s r p buf
   both complete k s r p buf i none c =
       let a = given-same k s r p buf i in
-      by (came complete (keptOf s) (readAnswer f s p (lentFor lend k s buf)) (refused-some f s p (lentFor lend k s buf))
+      by (came complete (keptOf s) (readAnswer f setting s p (lentFor lend k s buf)) (refused-some f setting s p (lentFor lend k s buf))
       (ap (λ (y : ReadAnswer). y .refused) (sym a) ∙ none) (ap (λ (y : ReadAnswer). y .complete) (sym a) ∙ c))
     where
-      by : Came complete (readAnswer f s p (lentFor lend k s buf)) → Both complete k s r p buf
+      by : Came complete (readAnswer f setting s p (lentFor lend k s buf)) → Both complete k s r p buf
       by h =
           let e = given-by complete k s r p buf (h .taken) (h .after) i (h .is) in
           record { taken = h .taken; after = h .after; is = h .is; took = ap (λ (y : ReadAnswer). y .taken) e; brings = ap (λ (y : ReadAnswer). y .state) e }

@@ -4,5 +4,6 @@ pub mod Played
 pub mod Moments
 pub mod Demand3
 pub mod Demand2
+pub mod Iced
 pub mod Zeros
 pub mod UniqueAcross

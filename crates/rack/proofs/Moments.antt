@@ -27,10 +27,10 @@ between s = go (s .«in_line»)
     go true e = absurd (omega arith)
     go false e = refl
 
-module _ (f : ℕ) (lend : ℕ → List ℕ → List ℕ) (first : List ℕ) where
+module _ (f setting : ℕ) (lend : ℕ → List ℕ → List ℕ) (first : List ℕ) where
   -- a moment of the reader's run, at which a line stands if it does across the boundary
   pub record Met (k : ℕ) (s : State) (buf bytes : List ℕ) (ls : List (List ℕ)) (standing : Type 0) : Type 0 where
-    pub moment : Moment f lend first k s buf bytes ls
+    pub moment : Moment f setting lend first k s buf bytes ls
     pub stands : standing → Standing moment
 
   pub record Through (k : ℕ) (r : ReaderState) (buf bytes : List ℕ) (ls : List (List ℕ)) (standing : Type 0) : Type 0 where
@@ -40,39 +40,39 @@ module _ (f : ℕ) (lend : ℕ → List ℕ → List ℕ) (first : List ℕ) whe
 
   -- in the buffer and with the bytes of the call across the boundary
   back : (k : ℕ) (s : State) (r : ReaderState) (p buf bytes : List ℕ) (ls : List (List ℕ)) (after : State) (taken : ℕ)
-      → r ≡ keptOf s → readOf f r p (lentAt lend k r buf) .taken ≡ taken → (standing : Type 0)
-      → Met (suc k) after (readLeft f s p (lentFor lend k s buf)) (bytes ++ take taken p) ls standing
-      → Met (suc k) after (lineLeft f r p (lentAt lend k r buf)) (bytes ++ take (readOf f r p (lentAt lend k r buf) .taken) p) ls standing
+      → r ≡ keptOf s → readOf f setting r p (lentAt lend k r buf) .taken ≡ taken → (standing : Type 0)
+      → Met (suc k) after (readLeft f setting s p (lentFor lend k s buf)) (bytes ++ take taken p) ls standing
+      → Met (suc k) after (lineLeft f setting r p (lentAt lend k r buf)) (bytes ++ take (readOf f setting r p (lentAt lend k r buf) .taken) p) ls standing
   back k s r p buf bytes ls after taken same took standing met =
-      subst (λ (x : List ℕ). Met (suc k) after x (bytes ++ take (readOf f r p (lentAt lend k r buf) .taken) p) ls standing) (sym (left-same f lend k s r p buf same))
-      (subst (λ (t : ℕ). Met (suc k) after (readLeft f s p (lentFor lend k s buf)) (bytes ++ take t p) ls standing) (sym took) met)
+      subst (λ (x : List ℕ). Met (suc k) after x (bytes ++ take (readOf f setting r p (lentAt lend k r buf) .taken) p) ls standing) (sym (left-same f setting lend k s r p buf same))
+      (subst (λ (t : ℕ). Met (suc k) after (readLeft f setting s p (lentFor lend k s buf)) (bytes ++ take t p) ls standing) (sym took) met)
 
-  pub through : {k : ℕ} {r : ReaderState} {buf bytes : List ℕ} {ls : List (List ℕ)} (m : MomentAt f lend first k r buf bytes ls) → Through k r buf bytes ls (StandingAt m)
+  pub through : {k : ℕ} {r : ReaderState} {buf bytes : List ℕ} {ls : List (List ℕ)} (m : MomentAt f setting lend first k r buf bytes ls) → Through k r buf bytes ls (StandingAt m)
   unfolding StandingAt Standing
   through run.MomentAt.start = record { state = freshState; same = refl; met = record { moment = driven.Moment.start; stands = λ w. w } }
   through (run.MomentAt.on {k = k} {s = r} {buf = buf} {bytes = bytes} {ls = ls} p m none more) =
       let t = through m in
       let s : State = t .state in
-      let b : Both f lend false k s r p buf = both f lend false k s r p buf (t .same) none more in
-      let met : Met (suc k) (b .after) (readLeft f s p (lentFor lend k s buf)) (bytes ++ take (b .taken) p) ls (StandingAt (run.MomentAt.on p m none more)) =
+      let b : Both f setting lend false k s r p buf = both f setting lend false k s r p buf (t .same) none more in
+      let met : Met (suc k) (b .after) (readLeft f setting s p (lentFor lend k s buf)) (bytes ++ take (b .taken) p) ls (StandingAt (run.MomentAt.on p m none more)) =
       record {
         moment = driven.Moment.on p (t .met .moment) (b .is);
-        stands = λ w. (t .met .stands (w .0), sym (lent-same f lend k s r buf (t .same)) ∙ w .1, between (b .after) (ap (λ (x : ReaderState). x .«in_line») (sym (b .brings)) ∙ w .2));
+        stands = λ w. (t .met .stands (w .0), sym (lent-same f setting lend k s r buf (t .same)) ∙ w .1, between (b .after) (ap (λ (x : ReaderState). x .«in_line») (sym (b .brings)) ∙ w .2));
       } in
       record { state = b .after; same = b .brings; met = back k s r p buf bytes ls (b .after) (b .taken) (t .same) (b .took) _ met }
   through (run.MomentAt.got {k = k} {s = r} {buf = buf} {bytes = bytes} {ls = ls} p m none line) =
       let t = through m in
       let s : State = t .state in
-      let b : Both f lend true k s r p buf = both f lend true k s r p buf (t .same) none line in
-      let met : Met (suc k) (b .after) (readLeft f s p (lentFor lend k s buf)) (bytes ++ take (b .taken) p) (ls ++ (lineIn (readLeft f s p (lentFor lend k s buf)) ∷ [])) (Unit {0}) =
+      let b : Both f setting lend true k s r p buf = both f setting lend true k s r p buf (t .same) none line in
+      let met : Met (suc k) (b .after) (readLeft f setting s p (lentFor lend k s buf)) (bytes ++ take (b .taken) p) (ls ++ (lineIn (readLeft f setting s p (lentFor lend k s buf)) ∷ [])) (Unit {0}) =
       record { moment = driven.Moment.got p (t .met .moment) (b .is); stands = λ w. w } in
       record {
         state = b .after;
         same = b .brings;
-        met = subst (λ (x : List ℕ). Met (suc k) (b .after) (lineLeft f r p (lentAt lend k r buf)) (bytes ++ take (readOf f r p (lentAt lend k r buf) .taken) p) (ls ++ (lineIn x ∷ [])) (Unit {0}))
-            (sym (left-same f lend k s r p buf (t .same)))
-            (back k s r p buf bytes (ls ++ (lineIn (readLeft f s p (lentFor lend k s buf)) ∷ [])) (b .after) (b .taken) (t .same) (b .took) (Unit {0}) met);
+        met = subst (λ (x : List ℕ). Met (suc k) (b .after) (lineLeft f setting r p (lentAt lend k r buf)) (bytes ++ take (readOf f setting r p (lentAt lend k r buf) .taken) p) (ls ++ (lineIn x ∷ [])) (Unit {0}))
+            (sym (left-same f setting lend k s r p buf (t .same)))
+            (back k s r p buf bytes (ls ++ (lineIn (readLeft f setting s p (lentFor lend k s buf)) ∷ [])) (b .after) (b .taken) (t .same) (b .took) (Unit {0}) met);
       }
-  through (run.MomentAt.refused {k = k} {buf = buf} {bytes = bytes} {ls = ls} g r p m some) =
+  through (run.MomentAt.refused {k = k} {buf = buf} {bytes = bytes} {ls = ls} g a r p m some) =
       let t = through m in
-      record { state = t .state; same = t .same; met = subst (λ (x : List ℕ). Met k (t .state) x bytes ls (StandingAt m)) (sym (read-refused g r p buf some .buffer)) (t .met) }
+      record { state = t .state; same = t .same; met = subst (λ (x : List ℕ). Met k (t .state) x bytes ls (StandingAt m)) (sym (read-refused g a r p buf some .buffer)) (t .met) }

@@ -13,11 +13,9 @@ use Rattle.reader.specs.declared.Answer.the-variants.{Refused, More, Line}
 use Rattle.reader_record.specs.Records.{freshState}
 use Rattle.reader.specs.Read.{readAnswer, readLeft, refusalOf, takenBy}
 use Rattle.cuts.proofs.Keeps.{refused-stays}
-use Rattle.refusals.specs.Refusals.{first}
-use Rattle.formats.specs.Formats.{formatRefusal}
 use Rattle.rack_recording.specs.declared.ReaderState.{ReaderState}
 use Rattle.rack_recording.specs.declared.ReadAnswer.{ReadAnswer}
-use Rattle.rack_recording.specs.Recording.{handedOf, flagOf, keptOf, refusedRead, readGiven, readOf, lineLeft}
+use Rattle.rack_recording.specs.Recording.{handedOf, flagOf, keptOf, flagRefusal, refusedRead, readGiven, readOf, lineLeft}
 use Rattle.rack.specs.Demand3.{Unchanged}
 
 -- a truth value comes back from its number, which is never over 1
@@ -73,24 +71,24 @@ unfolding keptOf
 fresh-zero = refl
 
 -- THE CALL ACROSS THE BOUNDARY is the reader's call, from every record that a call gave
-pub read-through : (f : ℕ) (s : State) (piece line : List ℕ) → readOf f (keptOf s) piece line ≡ readGiven (keptOf s) (readAnswer f s piece line)
+pub read-through : (f setting : ℕ) (s : State) (piece line : List ℕ) → readOf f setting (keptOf s) piece line ≡ readGiven (keptOf s) (readAnswer f setting s piece line)
 unfolding readOf keptOf
-read-through f s piece line = rw (flag-fits (s .«in_line»), handed-kept s)
+read-through f setting s piece line = rw (flag-fits (s .«in_line»), handed-kept s)
 
-pub line-through : (f : ℕ) (s : State) (piece line : List ℕ) → lineLeft f (keptOf s) piece line ≡ readLeft f s piece line
+pub line-through : (f setting : ℕ) (s : State) (piece line : List ℕ) → lineLeft f setting (keptOf s) piece line ≡ readLeft f setting s piece line
 unfolding lineLeft keptOf
-line-through f s piece line = rw (flag-fits (s .«in_line»), handed-kept s)
+line-through f setting s piece line = rw (flag-fits (s .«in_line»), handed-kept s)
 
 -- A CALL FROM ANY RECORD: refused for its flag, or the reader's call with what the record stands for
-module _ (f : ℕ) (r : ReaderState) (piece buf : List ℕ) (P : ReadAnswer → List ℕ → Type 0) where
-  pub read-ways : P (refusedRead (first (formatRefusal f) 12) r) buf
-      → (keptOf (handedOf r) ≡ r → P (readGiven r (readAnswer f (handedOf r) piece buf)) (readLeft f (handedOf r) piece buf))
-      → P (readOf f r piece buf) (lineLeft f r piece buf)
+module _ (f setting : ℕ) (r : ReaderState) (piece buf : List ℕ) (P : ReadAnswer → List ℕ → Type 0) where
+  pub read-ways : P (refusedRead (flagRefusal f setting) r) buf
+      → (keptOf (handedOf r) ≡ r → P (readGiven r (readAnswer f setting (handedOf r) piece buf)) (readLeft f setting (handedOf r) piece buf))
+      → P (readOf f setting r piece buf) (lineLeft f setting r piece buf)
   unfolding readOf lineLeft
   read-ways turned served = go (ltb 1 (r .«in_line»)) refl
     where
       go : (b : Bool) → ltb 1 (r .«in_line») ≡ b
-          → P (cond b (refusedRead (first (formatRefusal f) 12) r) (readGiven r (readAnswer f (handedOf r) piece buf))) (cond b buf (readLeft f (handedOf r) piece buf))
+          → P (cond b (refusedRead (flagRefusal f setting) r) (readGiven r (readAnswer f setting (handedOf r) piece buf))) (cond b buf (readLeft f setting (handedOf r) piece buf))
       go true e = turned
       go false e = served (kept-handed r (ltb-false 1 (r .«in_line») e))
 
@@ -108,14 +106,14 @@ given-taken was (More t s) = refl
 given-taken was (Line t s) = refl
 
 -- A REFUSED CALL gives back the record that it was handed, takes nothing, and leaves the buffer
-pub read-refused : (f : ℕ) (r : ReaderState) (piece buf : List ℕ) → zero < readOf f r piece buf .refused → Unchanged r buf (readOf f r piece buf) (lineLeft f r piece buf)
+pub read-refused : (f setting : ℕ) (r : ReaderState) (piece buf : List ℕ) → zero < readOf f setting r piece buf .refused → Unchanged r buf (readOf f setting r piece buf) (lineLeft f setting r piece buf)
 unfolding refusedRead readGiven
-read-refused f r piece buf =
-    read-ways f r piece buf (λ (a : ReadAnswer) (after : List ℕ). zero < a .refused → Unchanged r buf a after)
+read-refused f setting r piece buf =
+    read-ways f setting r piece buf (λ (a : ReadAnswer) (after : List ℕ). zero < a .refused → Unchanged r buf a after)
     (λ h. record { given-back = refl; taken-none = refl; none-complete = refl; buffer = refl })
-    (λ k. by (readAnswer f (handedOf r) piece buf) refl)
+    (λ k. by (readAnswer f setting (handedOf r) piece buf) refl)
   where
-    by : (x : Answer) → readAnswer f (handedOf r) piece buf ≡ x → zero < readGiven r x .refused → Unchanged r buf (readGiven r x) (readLeft f (handedOf r) piece buf)
-    by (Refused n) e h = record { given-back = refl; taken-none = refl; none-complete = refl; buffer = refused-stays f (handedOf r) piece buf n e }
+    by : (x : Answer) → readAnswer f setting (handedOf r) piece buf ≡ x → zero < readGiven r x .refused → Unchanged r buf (readGiven r x) (readLeft f setting (handedOf r) piece buf)
+    by (Refused n) e h = record { given-back = refl; taken-none = refl; none-complete = refl; buffer = refused-stays f setting (handedOf r) piece buf n e }
     by (More t s) e h = absurd (omega arith)
     by (Line t s) e h = absurd (omega arith)

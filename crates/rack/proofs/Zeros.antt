@@ -158,8 +158,8 @@ parts a b t s p q r =
     ap₂ (λ (x : Bool) (y : ℕ). record { refused = a .refused; complete = x; taken = y; state = a .state }) p q
     ∙ ap (λ (z : ReaderState). record { refused = a .refused; complete = b; taken = t; state = z }) r
 
-read-row : (f : ℕ) (s : ReaderState) (piece line : List ℕ) → ReadBack s (readOf f s piece line)
-read-row f s piece line h = let u = read-refused f s piece line (some (readOf f s piece line .refused) h) in parts (readOf f s piece line) false 0 s (u .none-complete) (u .taken-none) (u .given-back)
+read-row : (f setting : ℕ) (s : ReaderState) (piece line : List ℕ) → ReadBack s (readOf f setting s piece line)
+read-row f setting s piece line h = let u = read-refused f setting s piece line (some (readOf f setting s piece line .refused) h) in parts (readOf f setting s piece line) false 0 s (u .none-complete) (u .taken-none) (u .given-back)
   where
     some : (n : ℕ) → (n ≡ 0 → ⊥) → zero < n
     some zero h = absurd (h refl)

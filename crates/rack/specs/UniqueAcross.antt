@@ -67,7 +67,7 @@ pub record UniqueAcross : Type 0 where
   pub put-sync : (f : ℕ) (out : List ℕ) → OneWith (λ (r : CountAnswer) (x : List ℕ). (r ≡ syncGiven (putSyncAnswer f out)) × (x ≡ putSyncLeft f out))
   -- recordings
   pub fresh : One (λ (r : ReaderState). r ≡ keptOf freshState)
-  pub read : (f : ℕ) (s : ReaderState) (piece line : List ℕ) → OneWith (λ (r : ReadAnswer) (x : List ℕ). (r ≡ readOf f s piece line) × (x ≡ lineLeft f s piece line))
+  pub read : (f setting : ℕ) (s : ReaderState) (piece line : List ℕ) → OneWith (λ (r : ReadAnswer) (x : List ℕ). (r ≡ readOf f setting s piece line) × (x ≡ lineLeft f setting s piece line))
   pub write-line : (f : ℕ) (line out : List ℕ) → OneWith (λ (r : CountAnswer) (x : List ℕ). (r ≡ writtenGiven (writeLineAnswer f line out)) × (x ≡ writeLineLeft f line out))
   -- one plain line
   pub accepted : (f : ℕ) (line : List ℕ) (sector : ℕ) → One (λ (r : ℕ). r ≡ acceptedAnswer f line sector)

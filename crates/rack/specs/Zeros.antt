@@ -122,7 +122,7 @@ pub record Zeros : Type 0 where
   -- `stepped` and `step`
   pub step : (register : ℕ) → StepBack register (stepGiven (stepAnswer register) (registerLeft register))
   pub put-sync : (a : SyncPut) → CountAlone (syncGiven a)
-  pub read : (f : ℕ) (s : ReaderState) (piece line : List ℕ) → ReadBack s (readOf f s piece line)
+  pub read : (f setting : ℕ) (s : ReaderState) (piece line : List ℕ) → ReadBack s (readOf f setting s piece line)
   pub write-line : (a : Written) → CountAlone (writtenGiven a)
   pub filler : (a : Counted) → CountAlone (fillerGiven a)
   pub answers : (f : ℕ) (line : List ℕ) → TwelveAlone (twelveGiven (answersAnswer f line))

@@ -15,5 +15,6 @@
 //   Calls, Played, Moments  a call, a run, a moment there is the reader's own
 //   Demand3  demand 3 across the boundary, a to d, as one record
 //   Demand2  demand 2 across the boundary
+//   Iced     which wrong bits in SYNC and dummy cost no line, there too
 //   Zeros    a refused answer there has its number and 0 elsewhere: one list
 //   UniqueAcross  any two results that a contract there allows are the same: one list

@@ -9,7 +9,7 @@ use Rattle.formats.specs.Formats.{formatRefusal}
 use Rattle.reader_record.specs.declared.State.{State}
 use Rattle.reader.specs.declared.Answer.{Answer}
 use Rattle.reader.specs.declared.Answer.the-variants.{Refused, More, Line}
-use Rattle.reader.specs.Read.{readAnswer, readLeft, refusalOf, takenBy, lineBy}
+use Rattle.reader.specs.Read.{settingRefusal, readAnswer, readLeft, refusalOf, takenBy, lineBy}
 use Rattle.writer.specs.declared.Written.{Written}
 use Rattle.writer.specs.Wire.{writtenNumber, writtenBytes}
 use Rattle.rack_number.specs.declared.CountAnswer.{CountAnswer}
@@ -65,13 +65,17 @@ recordAfter was (Line t s) = keptOf s
 unfoldable pub readGiven : ReaderState → Answer → ReadAnswer
 readGiven was a = record { refused = refusalOf a; complete = lineBy a; taken = takenBy a; state = recordAfter was a }
 
--- THE CALL: its answer, and the line buffer after it; 1, 12, 2
-unfoldable pub readOf : ℕ → ReaderState → List ℕ → List ℕ → ReadAnswer
-readOf f s piece line =
-    cond (ltb 1 (s .«in_line»)) (refusedRead (first (formatRefusal f) 12) s) (readGiven s (readAnswer f (handedOf s) piece line))
+-- a flag that is neither 0 nor 1: 12, after 1 and 13
+unfoldable pub flagRefusal : ℕ → ℕ → ℕ
+flagRefusal f k = first (formatRefusal f) (first (settingRefusal k) 12)
 
-unfoldable pub lineLeft : ℕ → ReaderState → List ℕ → List ℕ → List ℕ
-lineLeft f s piece line = cond (ltb 1 (s .«in_line»)) line (readLeft f (handedOf s) piece line)
+-- THE CALL at the setting k: its answer, and the line buffer after it; 1, 13, 12, 2
+unfoldable pub readOf : ℕ → ℕ → ReaderState → List ℕ → List ℕ → ReadAnswer
+readOf f k s piece line =
+    cond (ltb 1 (s .«in_line»)) (refusedRead (flagRefusal f k) s) (readGiven s (readAnswer f k (handedOf s) piece line))
+
+unfoldable pub lineLeft : ℕ → ℕ → ReaderState → List ℕ → List ℕ → List ℕ
+lineLeft f k s piece line = cond (ltb 1 (s .«in_line»)) line (readLeft f k (handedOf s) piece line)
 
 -- ---- write_line
 

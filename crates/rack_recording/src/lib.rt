@@ -10,7 +10,7 @@
 ghost use mathlib.Core.Path.{_≡_};
 ghost use Rattle.reader_record.specs.Records.{freshState};
 ghost use Rattle.writer.specs.Wire.{writeLineAnswer, writeLineLeft};
-ghost use Rattle.rack_recording.specs.Recording.{handedOf, keptOf, refusedRead, readGiven, readOf, lineLeft, writtenGiven};
+ghost use Rattle.rack_recording.specs.Recording.{handedOf, keptOf, refusedRead, readGiven, flagRefusal, readOf, lineLeft, writtenGiven};
 use formats::format_refusal;
 use rack_number::CountAnswer;
 use reader::Answer;
@@ -123,20 +123,34 @@ fn read_given(was: ReaderState, a: Answer) -> ReadAnswer
     }
 }
 
-// Reads on from a record until a line is complete or the piece is used up; refused with 1, 12, 2.
+// Inner. The refusal of a record whose flag is neither 0 nor 1: 12, after 1 and 13.
+fn impossible_flag(format: u8, setting: u8) -> u8
+    ensures { λ r. ⌜ r ≡ flagRefusal format setting ⌝ }
+{
+    first(
+        format_refusal(format),
+        first(reader::setting_refusal(setting), refusals::STATE),
+    )
+}
+
+// Reads on from a record, at a setting, until a line is complete or the piece is used up; refused with 1, 13, 12, 2.
 #[no_mangle]
 pub extern "C" fn hansobrik_read(
     format: u8,
+    setting: u8,
     state: ReaderState,
     piece: &[u8],
     line: &mut [u8],
 ) -> ReadAnswer
-    ensures { λ r. ⌜ (r ≡ readOf format state (now (piece .entry)) (now (line .entry))) × (now (line .exit) ≡ lineLeft format state (now (piece .entry)) (now (line .entry))) ⌝ }
+    ensures { λ r. ⌜ (r ≡ readOf format setting state (now (piece .entry)) (now (line .entry))) × (now (line .exit) ≡ lineLeft format setting state (now (piece .entry)) (now (line .entry))) ⌝ }
 {
     if state.in_line > 1 {
-        return refused_read(first(format_refusal(format), refusals::STATE), state);
+        return refused_read(impossible_flag(format, setting), state);
     }
-    read_given(state, reader::read(format, handed(state), piece, line))
+    read_given(
+        state,
+        reader::read(format, setting, handed(state), piece, line),
+    )
 }
 
 // Inner. The bytes of a written line as they cross the boundary.

@@ -56,34 +56,34 @@ reading s = record {
 same-values : {b c : Bool} {t u : ℕ} {y z : State} → b ≡ c → t ≡ u → y ≡ z → _≡_ {A = Values} (b, t, y) (c, u, z)
 same-values p q r = cc
 
-module _ (f : ℕ) (s : State) (piece buf : List ℕ) where
+module _ (f k : ℕ) (s : State) (piece buf : List ℕ) where
   -- what a call that is not refused gives
   served : Values
-  served = (servedWhole s piece buf, servedTaken s piece buf, servedState s piece buf)
+  served = (servedWhole k s piece buf, servedTaken k s piece buf, servedState k s piece buf)
 
-  served-is : servedAnswer s piece buf ≡ given served
+  served-is : servedAnswer k s piece buf ≡ given served
   unfolding served servedTaken servedWhole servedState servedAnswer
-  served-is = go (eqb (length piece) 0) (callOf s piece buf)
+  served-is = go (eqb (length piece) 0) (callOf k s piece buf)
     where
       go : (e : Bool) (c : Call Bench) → cond e (More 0 s) (callAnswer c) ≡ given (cond e false (callWhole c), cond e 0 (callTaken c), cond e s (callState c))
       go true c = refl
       go false (more t b n v) = refl
       go false (whole t b n v) = refl
 
-  answer-is : readAnswer f s piece buf ≡ answered Refused (readRefusal f s (length buf)) (given served)
+  answer-is : readAnswer f k s piece buf ≡ answered Refused (readRefusal f k s (length buf)) (given served)
   unfolding readAnswer
-  answer-is = ap (answered Refused (readRefusal f s (length buf))) served-is
+  answer-is = ap (answered Refused (readRefusal f k s (length buf))) served-is
 
   -- the values one by one
-  parts : (k : ℕ) → _≡_ {A = Values} (kept k (false, 0, s) served) (kept k false (servedWhole s piece buf), kept k 0 (servedTaken s piece buf), kept k s (servedState s piece buf))
+  parts : (n : ℕ) → _≡_ {A = Values} (kept n (false, 0, s) served) (kept n false (servedWhole k s piece buf), kept n 0 (servedTaken k s piece buf), kept n s (servedState k s piece buf))
   unfolding served kept
   parts zero = refl
-  parts (suc k) = refl
+  parts (suc n) = refl
 
-  pub read-told : (r : Answer) → r ≡ readAnswer f s piece buf → ReadOk f s piece buf r
+  pub read-told : (r : Answer) → r ≡ readAnswer f k s piece buf → ReadOk f k s piece buf r
   read-told r e =
-      let h = says-of (reading s) r (readRefusal f s (length buf)) served (e ∙ answer-is) in
-      let v = h .1 ∙ parts (readRefusal f s (length buf)) in
+      let h = says-of (reading s) r (readRefusal f k s (length buf)) served (e ∙ answer-is) in
+      let v = h .1 ∙ parts (readRefusal f k s (length buf)) in
       record {
         number = h .0;
         taken = ap (λ (x : Values). x .1) v;
@@ -92,8 +92,8 @@ module _ (f : ℕ) (s : State) (piece buf : List ℕ) where
         genuine = h .2;
       }
 
-  pub read-is : (r : Answer) → ReadOk f s piece buf r → r ≡ readAnswer f s piece buf
+  pub read-is : (r : Answer) → ReadOk f k s piece buf r → r ≡ readAnswer f k s piece buf
   read-is r h =
-      says-is (reading s) (readRefusal f s (length buf)) served r
-      (h .number, same-values (h .complete) (h .taken) (h .state) ∙ sym (parts (readRefusal f s (length buf))), h .genuine)
+      says-is (reading s) (readRefusal f k s (length buf)) served r
+      (h .number, same-values (h .complete) (h .taken) (h .state) ∙ sym (parts (readRefusal f k s (length buf))), h .genuine)
       ∙ sym answer-is

@@ -1,10 +1,12 @@
-// The two loops of a reader over the bits of a piece: the search for the tail, and the bits of a line made plain into the
-// caller's buffer.
+// The two loops of a reader over the bits of a piece: the search for the tail, or for what counts as the tail at a setting, and
+// the bits of a line made plain into the caller's buffer.
 //
 // What the lines of a recording are is said in `specs/Lines.antt`. The contracts cite `specs/Loops.antt`, over `specs/Phase.antt`
 // (one bit) and `specs/Call.antt` (one call). All functions are inner: the call of the crate `reader` refuses instead.
 ghost use mathlib.Core.Path.{_≡_};
 ghost use Prim.Native.Nat.{_<_, _≤_, _^_, _%_};
+ghost use Rattle.bits.specs.Bits.{digits};
+ghost use Rattle.reader_bits.specs.Lines.{isTail};
 ghost use Rattle.reader_bits.specs.Loops.{SoughtOk, FillIn, FilledOk};
 use formats::Format;
 use scramble::Register;
@@ -19,12 +21,23 @@ pub enum Sought {
     Nothing { count: u8, search: u64 },
 }
 
-// Inner. The search: left0 low bits of byte0, then the piece, after count0 remembered bits. It leaves at the first bit
-// that completes the tail, inside a byte too, with the byte's other bits still to read. The tail is compared once 64
-// bits are there, all since the search began.
-pub fn seek(piece: &[u8], count0: u8, search0: u64, left0: u8, byte0: u8) -> Sought
+// Inner. Whether a window of 64 bits counts as the tail at a setting: at most so many of its bits differ. The setting 0 asks for
+// the tail itself, and nothing is counted.
+fn counts_as_tail(setting: u8, window: u64) -> bool
+    ensures { λ r. ⌜ r ≡ isTail setting (digits 64 window) ⌝ }
+{
+    if setting == 0 {
+        return window == TAIL;
+    }
+    set_bits::ones(TAIL ^ window) <= setting as usize
+}
+
+// Inner. The search at a setting: left0 low bits of byte0, then the piece, after count0 remembered bits. It leaves at the first
+// bit that completes what counts as the tail, inside a byte too, with the byte's other bits still to read. The tail is
+// compared once 64 bits are there, all since the search began.
+pub fn seek(setting: u8, piece: &[u8], count0: u8, search0: u64, left0: u8, byte0: u8) -> Sought
     requires { ⌜ (count0 < 64) × (search0 < 2 ^ count0) × (left0 ≤ 8) ⌝ }
-    ensures { λ r. ⌜ SoughtOk (now (piece .entry)) count0 search0 left0 byte0 r ⌝ }
+    ensures { λ r. ⌜ SoughtOk setting (now (piece .entry)) count0 search0 left0 byte0 r ⌝ }
 {
     let mut count = count0;
     let mut search = search0;
@@ -40,7 +53,7 @@ pub fn seek(piece: &[u8], count0: u8, search0: u64, left0: u8, byte0: u8) -> Sou
                 count += 1;
                 search = w;
             } else {
-                if w == TAIL {
+                if counts_as_tail(setting, w) {
                     break 'seek;
                 }
                 search = w & 0x7fff_ffff_ffff_ffff;

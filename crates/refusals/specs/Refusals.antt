@@ -38,6 +38,6 @@ shortOf given needed number = when (ltb given needed) number
 unfoldable pub outside : ℕ → ℕ → ℕ → Bool
 outside low high n = ltb n low || ltb high n
 
--- 4, 7 or 10: the number is not one from low to high
+-- 13, 4, 7 or 10: the number is not one from low to high
 unfoldable pub outsideOf : ℕ → ℕ → ℕ → ℕ → ℕ
 outsideOf low high n number = when (outside low high n) number

@@ -12,6 +12,9 @@ ghost use Rattle.refusals.specs.Refusals.{first, shortOf, outsideOf};
 // The format is neither 1 nor 2.
 pub const FORMAT: u8 = 1;
 
+// The reader's setting is above 6.
+pub const SETTING: u8 = 13;
+
 // The state record is impossible.
 pub const STATE: u8 = 12;
 
@@ -59,7 +62,7 @@ pub fn short(given: usize, needed: usize, number: u8) -> u8
     if given < needed { number } else { 0 }
 }
 
-// Inner. The number, 4, 7 or 10, where n is not one from low to high; else 0. Where low is above high none is.
+// Inner. The number, 13, 4, 7 or 10, where n is not one from low to high; else 0. Where low is above high none is.
 pub fn outside(low: u64, high: u64, n: u64, number: u8) -> u8
     ensures { λ r. ⌜ r ≡ outsideOf low high n number ⌝ }
 {

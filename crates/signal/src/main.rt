@@ -1,18 +1,21 @@
-// signal [N [FORMAT]]: a training recording on standard output, for a class that plays when the card is away. USAGE says what its
-// words are; `pattern` says what stands in a line.
+// signal [-2] [N [FORMAT [W]]]: a training recording on standard output, for a class that plays when the card is away. USAGE says
+// what its words are; `pattern` says what stands in a line, `wrong` which bits of its tail come wrong.
 //
 // The program only makes bytes and hands them on: what a sector and a line on the wire are is proved of `sector_writer` and
 // `writer`. Of its own functions it is proved that they are safe and end.
 ghost use Prim.Native.Nat.{_*_, _+_, _≤_, _<_};
 use libc::STDOUT_FILENO;
 use words::Asked;
+use words::Takes;
 use writer::Written;
 
 mod pattern;
+mod wrong;
 
-const USAGE: [u8; 286] = *b"usage: signal [-2] [N [FORMAT]]
+const USAGE: [u8; 378] = *b"usage: signal [-2] [N [FORMAT [W]]]
 Writes a training recording of N lines, 0 to 1000000, to standard output; 10 where N is left out.
   FORMAT   1 is S-VISSR 2.0, as where it is left out, 2 is HiRID
+  W        so many bits, 0 to 64, are wrong in each line's tail; 0 where it is left out
   -2       the same as FORMAT 2
 Standard error says `total N` where all of it was written.
 ";
@@ -25,26 +28,29 @@ fn send(wire: &[u8], bytes: usize) -> bool {
     io::write_all(STDOUT_FILENO, &wire[..bytes])
 }
 
-// Line k of the pattern, made and sent.
-fn one(format: u8, k: u64) -> bool
-    requires { ⌜ k < 1000000 ⌝ }
+// Line k of the pattern, made and sent, with w wrong bits.
+fn one(format: u8, k: u64, w: u64) -> bool
+    requires { ⌜ (k < 1000000) × (w ≤ 64) ⌝ }
 {
     let mut line = [0u8; 44356];
     let mut wire = [0u8; 49500];
     pattern::fill(format, k, &mut line);
     match writer::write_line(format, &line, &mut wire) {
         Written::Refused(_) => false,
-        Written::Put(bytes) => send(&wire, bytes),
+        Written::Put(bytes) => {
+            wrong::put(format, k, w, &mut wire);
+            send(&wire, bytes)
+        }
     }
 }
 
 // n lines, up to the first that cannot be written. The recording has no room for a last line of text: it is told.
-fn play(format: u8, n: u64)
-    requires { ⌜ n ≤ 1000000 ⌝ }
+fn play(format: u8, n: u64, w: u64)
+    requires { ⌜ (n ≤ 1000000) × (w ≤ 64) ⌝ }
 {
     let mut k: u64 = 0;
     while k < n {
-        if !one(format, k) {
+        if !one(format, k, w) {
             os::fail(b"standard output");
             return;
         }
@@ -62,8 +68,27 @@ fn format_of(asked: Asked) -> u64 {
     format
 }
 
+// n lines in a format, with the wrong bits that the words ask for.
+fn damaged(format: u8, n: u64, asked: Asked)
+    requires { ⌜ n ≤ 1000000 ⌝ }
+{
+    let w = command::number_at(asked.third, 0);
+    if wrong::MOST < w {
+        command::refuse_word(
+            b"not a number of wrong bits, 0 to 64: ",
+            asked.third,
+            &USAGE,
+        );
+        return;
+    }
+    play(format, n, w);
+}
+
 fn main() {
-    let asked = command::asked_for(2);
+    let asked = command::asked_for(Takes {
+        names: 3,
+        setting: false,
+    });
     if !command::goes_on(asked, &USAGE) {
         return;
     }
@@ -77,8 +102,8 @@ fn main() {
         return;
     }
     match format_of(asked) {
-        1 => play(1, lines),
-        2 => play(2, lines),
+        1 => damaged(1, lines, asked),
+        2 => damaged(2, lines, asked),
         _ => command::refuse_word(b"not the format, 1 or 2: ", asked.second, &USAGE),
     }
 }

@@ -5,24 +5,36 @@
 ghost use mathlib.Core.Path.{_≡_};
 ghost use Prim.Native.Nat.{_≤_};
 ghost use Rattle.bits.specs.Bits.{same};
-ghost use Rattle.words.specs.Words.{isOption, wordOf, nothingAsked, unserved as Words·unserved, named as Words·named, heard as Words·heard};
+ghost use Rattle.words.specs.Words.{isOption, wordOf, settingOf, nothingAsked, withOptions, withNames, awaiting, unserved as Words·unserved, named as Words·named, heard as Words·heard, closed as Words·closed};
 
-// A word: -2, --help, a name (that of a file, or a number), or another that opens with a minus sign.
+// A word: -2, --help, -s, the number behind -s, a name (that of a file, or a number), or another that opens with a minus sign.
 pub enum Word {
     Hirid,
     Help,
+    Setting,
+    Number,
     Name,
     Unknown,
 }
 
-// What the words ask for: the format, whether it is help, how many names there are and the places of the first two, and the
-// place of the first word that is not served. Places count from 1, and 0 is none: the program's own name stands there.
+// Which words a program takes beside -2 and --help: at most so many names, and whether -s.
+pub struct Takes {
+    pub names: usize,
+    pub setting: bool,
+}
+
+// What the words ask for: the format, whether it is help, whether -s awaits its number and the place of that number (of -s while
+// it awaits), how many names there are and the places of the first three, and the place of the first word that is not served.
+// Places count from 1, and 0 is none: the program's own name stands there.
 pub struct Asked {
     pub format: u8,
     pub help: bool,
+    pub awaits: bool,
+    pub setting: usize,
     pub names: usize,
     pub first: usize,
     pub second: usize,
+    pub third: usize,
     pub wrong: usize,
 }
 
@@ -33,9 +45,12 @@ pub fn nothing() -> Asked
     Asked {
         format: 1,
         help: false,
+        awaits: false,
+        setting: 0,
         names: 0,
         first: 0,
         second: 0,
+        third: 0,
         wrong: 0,
     }
 }
@@ -61,20 +76,43 @@ fn is_option(text: &[u8]) -> bool
     text[0] == b'-'
 }
 
-// What a text is.
-pub fn word_of(text: &[u8]) -> Word
-    ensures { λ r. ⌜ r ≡ wordOf (now (text .entry)) ⌝ }
+// What a text is. Where -s awaits its number it is that, whatever it says.
+pub fn word_of(awaited: bool, text: &[u8]) -> Word
+    ensures { λ r. ⌜ r ≡ wordOf awaited (now (text .entry)) ⌝ }
 {
+    if awaited {
+        return Word::Number;
+    }
     if is(text, b"-2") {
         return Word::Hirid;
     }
     if is(text, b"--help") {
         return Word::Help;
     }
+    if is(text, b"-s") {
+        return Word::Setting;
+    }
     if is_option(text) {
         return Word::Unknown;
     }
     Word::Name
+}
+
+// The setting that a text is, one digit 0 to 6; 7 where it is something else.
+pub fn setting_of(text: &[u8]) -> u8
+    ensures { λ r. ⌜ r ≡ settingOf (now (text .entry)) ⌝ }
+{
+    if text.len() != 1 {
+        return 7;
+    }
+    let c = text[0];
+    if c < b'0' {
+        return 7;
+    }
+    if b'6' < c {
+        return 7;
+    }
+    c - b'0'
 }
 
 // The word at a place is not served. The first such word is kept.
@@ -87,14 +125,51 @@ pub fn unserved(a: Asked, place: usize) -> Asked
     Asked {
         format: a.format,
         help: a.help,
+        awaits: a.awaits,
+        setting: a.setting,
         names: a.names,
         first: a.first,
         second: a.second,
+        third: a.third,
         wrong: place,
     }
 }
 
-// A name at a place, of at most so many: the first, the second, or one too many.
+// The same with other options.
+fn with_options(a: Asked, format: u8, help: bool, awaits: bool, setting: usize) -> Asked
+    ensures { λ r. ⌜ r ≡ withOptions a format help awaits setting ⌝ }
+{
+    Asked {
+        format: format,
+        help: help,
+        awaits: awaits,
+        setting: setting,
+        names: a.names,
+        first: a.first,
+        second: a.second,
+        third: a.third,
+        wrong: a.wrong,
+    }
+}
+
+// The same with other names.
+fn with_names(a: Asked, names: usize, first: usize, second: usize, third: usize) -> Asked
+    ensures { λ r. ⌜ r ≡ withNames a names first second third ⌝ }
+{
+    Asked {
+        format: a.format,
+        help: a.help,
+        awaits: a.awaits,
+        setting: a.setting,
+        names: names,
+        first: first,
+        second: second,
+        third: third,
+        wrong: a.wrong,
+    }
+}
+
+// A name at a place, of at most so many: the first, the second, the third, or one too many.
 fn named(a: Asked, place: usize, most: usize) -> Asked
     ensures { λ r. ⌜ r ≡ Words·named a place most ⌝ }
 {
@@ -103,52 +178,52 @@ fn named(a: Asked, place: usize, most: usize) -> Asked
         return unserved(a, place);
     }
     if n == 0 {
-        return Asked {
-            format: a.format,
-            help: a.help,
-            names: 1,
-            first: place,
-            second: a.second,
-            wrong: a.wrong,
-        };
+        return with_names(a, 1, place, a.second, a.third);
     }
     if n == 1 {
-        return Asked {
-            format: a.format,
-            help: a.help,
-            names: 2,
-            first: a.first,
-            second: place,
-            wrong: a.wrong,
-        };
+        return with_names(a, 2, a.first, place, a.third);
+    }
+    if n == 2 {
+        return with_names(a, 3, a.first, a.second, place);
     }
     unserved(a, place)
 }
 
-// What is asked for with one word more, at a place, by a program that takes at most so many names.
-pub fn heard(a: Asked, place: usize, w: Word, most: usize) -> Asked
-    ensures { λ r. ⌜ r ≡ Words·heard a place w most ⌝ }
+// -s at a place, which awaits its number. It is served once, by a program that takes it.
+fn awaited(a: Asked, place: usize, taken: bool) -> Asked
+    ensures { λ r. ⌜ r ≡ awaiting a place taken ⌝ }
+{
+    if !taken {
+        return unserved(a, place);
+    }
+    if a.setting != 0 {
+        return unserved(a, place);
+    }
+    with_options(a, a.format, a.help, true, place)
+}
+
+// What is asked for with one word more, at a place, by what a program takes.
+pub fn heard(a: Asked, place: usize, w: Word, t: Takes) -> Asked
+    ensures { λ r. ⌜ r ≡ Words·heard a place w t ⌝ }
 {
     match w {
-        Word::Hirid => Asked {
-            format: 2,
-            help: a.help,
-            names: a.names,
-            first: a.first,
-            second: a.second,
-            wrong: a.wrong,
-        },
-        Word::Help => Asked {
-            format: a.format,
-            help: true,
-            names: a.names,
-            first: a.first,
-            second: a.second,
-            wrong: a.wrong,
-        },
-        Word::Name => named(a, place, most),
+        Word::Hirid => with_options(a, 2, a.help, a.awaits, a.setting),
+        Word::Help => with_options(a, a.format, true, a.awaits, a.setting),
+        Word::Setting => awaited(a, place, t.setting),
+        Word::Number => with_options(a, a.format, a.help, false, place),
+        Word::Name => named(a, place, t.names),
         Word::Unknown => unserved(a, place),
     }
+}
+
+// What is asked for by all words. A last one -s, which has no number, is not served.
+pub fn closed(a: Asked) -> Asked
+    ensures { λ r. ⌜ r ≡ Words·closed a ⌝ }
+{
+    if a.awaits {
+        return unserved(a, a.setting);
+    }
+    a
 }
 
 // The largest number that a word can be.

@@ -18,6 +18,11 @@ pub fn set_bit(bytes: &mut [u8], place: usize, value: u8) {
     }
 }
 
+/// Turns over the bit at a place of a byte slice, and no other.
+pub fn turn_over(bytes: &mut [u8], place: usize) {
+    set_bit(bytes, place, 1 - bit(bytes, place));
+}
+
 /// `count` bits of a byte slice from place `start` on.
 pub fn part(bytes: &[u8], start: usize, count: usize) -> Vec<u8> {
     (start..start + count)
@@ -56,6 +61,12 @@ pub fn of_number(value: u64, count: usize) -> Vec<u8> {
 /// How many of the bits are set.
 pub fn ones(bits: &[u8]) -> usize {
     bits.iter().filter(|&&bit| bit == 1).count()
+}
+
+/// In how many places two lists of the same length differ.
+pub fn differences(one: &[u8], other: &[u8]) -> usize {
+    assert_eq!(one.len(), other.len(), "lists of the same length");
+    one.iter().zip(other).filter(|(a, b)| a != b).count()
 }
 
 /// Bits from the paper's print, as "00010001".

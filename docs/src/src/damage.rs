@@ -64,8 +64,7 @@ pub fn good(format_number: usize, lines: u64) -> Vec<u8> {
 pub fn flipped(mut recording: Vec<u8>, flips: usize, random: &mut Random) -> Vec<u8> {
     for _ in 0..flips {
         let place = random.under(8 * recording.len());
-        let turned = 1 - bits::bit(&recording, place);
-        bits::set_bit(&mut recording, place, turned);
+        bits::turn_over(&mut recording, place);
     }
     recording
 }

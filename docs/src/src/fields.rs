@@ -217,16 +217,16 @@ impl Assemblies {
     }
 }
 
-/// The fields of a recording that comes in pieces.
+/// The fields of a recording that comes in pieces, read at one setting.
 pub struct Fields {
     recording: Recording,
     assemblies: Assemblies,
 }
 
 impl Fields {
-    pub fn new(format: usize) -> Fields {
+    pub fn new(format: usize, setting: usize) -> Fields {
         Fields {
-            recording: Recording::new(format),
+            recording: Recording::new(format, setting),
             assemblies: Assemblies::new(format),
         }
     }

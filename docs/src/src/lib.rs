@@ -3,21 +3,22 @@
 //! Document 01 ("S-VISSR 2.0 and HiRID lines: build description and exact
 //! rules") asks that "whole-line vectors and an independent second decoder
 //! are run and compared". This is that second decoder. It is written from
-//! document 01, and where that is silent from docs/DECISIONS.md, so that there
-//! its agreement is no evidence ("The second decoder" there has the places). It
-//! shares no code with the crates that it is compared with. It is meant to be
-//! held beside the paper and found right by reading: lists of bits, short
-//! functions, no tricks. Speed does not matter.
+//! document 01, with document 02's T-01 (wrong bits in the tail), and where
+//! they are silent from docs/DECISIONS.md, so that there its agreement is no
+//! evidence ("The second decoder" there has the places). It shares no code
+//! with the crates that it is compared with. It is meant to be held beside the
+//! paper and found right by reading: lists of bits, short functions, no tricks.
+//! Speed does not matter.
 //!
 //! Not the paper's are the training pattern ([`pattern`]), the damage done to
-//! recordings ([`damage`]) and the rows of text ([`fields`]).
+//! recordings ([`damage`], [`ice`]) and the rows of text ([`fields`]).
 //!
 //! Every call that can refuse gives `Result<_, Refusal>`; `Err(number)` stands
 //! for the paper's "returns its number and 0 elsewhere". A refused call leaves
 //! its state and its buffers as they were.
 //!
-//! Ordinal numbers (format, sector, channel, block, level, row, column) are
-//! `usize`, so that every wrong number can be asked for.
+//! Ordinal numbers (format, setting, sector, channel, block, level, row, column)
+//! are `usize`, so that every wrong number can be asked for.
 
 #![forbid(unsafe_code)]
 
@@ -39,6 +40,7 @@ pub mod document;
 
 pub mod damage;
 pub mod fields;
+pub mod ice;
 pub mod listing;
 pub mod pattern;
 pub mod vectors;

@@ -37,7 +37,7 @@ pub fn unfinished(bits: usize) -> String {
     format!("an unfinished line, {bits} of 354848 bits")
 }
 
-/// A listing of a recording that comes in pieces.
+/// A listing of a recording that comes in pieces, read at one setting.
 pub struct Listing {
     format: usize,
     recording: Recording,
@@ -45,10 +45,10 @@ pub struct Listing {
 }
 
 impl Listing {
-    pub fn new(format: usize) -> Listing {
+    pub fn new(format: usize, setting: usize) -> Listing {
         Listing {
             format,
-            recording: Recording::new(format),
+            recording: Recording::new(format, setting),
             lines: 0,
         }
     }
@@ -74,9 +74,14 @@ impl Listing {
     }
 }
 
-/// The whole listing of a recording, from the plain definition of its lines.
-pub fn of_recording(format_number: usize, recording: &[u8]) -> Result<String, Refusal> {
-    let lines = crate::lines::lines(&crate::bits::from_bytes(recording));
+/// The whole listing of a recording at a setting, from the plain definition of
+/// its lines.
+pub fn of_recording(
+    format_number: usize,
+    setting: usize,
+    recording: &[u8],
+) -> Result<String, Refusal> {
+    let lines = crate::lines::lines(setting, &crate::bits::from_bytes(recording));
     let mut text = String::new();
     for (index, line) in lines.iter().enumerate() {
         text += &row(format_number, index + 1, &line.bytes)?;

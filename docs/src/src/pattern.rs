@@ -1,5 +1,5 @@
-//! The test pattern of `second signal N FORMAT`, said so exactly that another
-//! program can make the same bytes.
+//! The test pattern of `second signal N FORMAT [W]`, said so exactly that
+//! another program can make the same bytes.
 //!
 //! The recording is N lines on the wire, one behind the other, each as
 //! [`crate::scramble::write_line`] writes it: nothing before, between or
@@ -41,12 +41,18 @@
 //!
 //! **Pixels.** Pixel j (from 0) of sector s (2 to 12), w bits wide, of line k
 //! is (j x (2s + k + 1) + j div 3 + 5s + k) mod 2^w.
+//!
+//! **Wrong bits.** W, 0 to 64 and 0 where it is left out, is how many bits of
+//! each line's tail are inverted. The tail is the last 64 bits of SYNC, place 0
+//! its first bit. In line k they are those at the places (7k + 23j) mod 64 for
+//! j = 0, 1, ..., W-1. As 23 is odd, no two of them are the same.
 
+use crate::bits;
 use crate::blocks::{Block, BLOCKS, CALIBRATION_2};
 use crate::document::LAST_PLACE;
 use crate::format::{format, LINE_BYTES};
 use crate::refusal::Refusal;
-use crate::scramble::write_line;
+use crate::scramble::{write_line, TAIL_BITS};
 use crate::sectors::{put_data, put_pixels, Sector, SECTORS};
 
 /// The last `2n` decimal digits of a value, two to a byte.
@@ -157,5 +163,22 @@ pub fn line_of_zeros(format_number: usize) -> Result<Vec<u8>, Refusal> {
 pub fn on_the_wire(format_number: usize, line: &[u8]) -> Result<Vec<u8>, Refusal> {
     let mut wire = vec![0; format(format_number)?.wire_bytes];
     write_line(format_number, line, &mut wire)?;
+    Ok(wire)
+}
+
+/// The places of the wrong bits in the tail of line k.
+pub fn wrong_places(k: u64, wrong: usize) -> Vec<usize> {
+    (0..wrong as u64)
+        .map(|j| ((7 * k + 23 * j) % 64) as usize)
+        .collect()
+}
+
+/// Line k as it goes out, with so many wrong bits in its tail.
+pub fn signal(format_number: usize, k: u64, wrong: usize) -> Result<Vec<u8>, Refusal> {
+    let mut wire = on_the_wire(format_number, &line(format_number, k)?)?;
+    let tail = format(format_number)?.sync_bits - TAIL_BITS;
+    for place in wrong_places(k, wrong) {
+        bits::turn_over(&mut wire, tail + place);
+    }
     Ok(wire)
 }

@@ -14,8 +14,9 @@
 
 use crate::bits;
 use crate::format::{format, INFORMATION_BITS, LINE_BYTES};
+use crate::lines::{counts_as_tail, LARGEST_SETTING};
 use crate::refusal::{self, refuse_if, Refusal};
-use crate::scramble::{complement, step, tail, AFTER_SYNC, TAIL_BITS};
+use crate::scramble::{complement, step, AFTER_SYNC, TAIL_BITS};
 
 /// What one call leaves for the next. The caller keeps it and may make it up.
 ///
@@ -135,9 +136,9 @@ impl Place {
 
     /// Reads one bit and gives the place after it. `buffer` gets a byte when
     /// its eighth bit comes in.
-    fn after(self, bit: u8, buffer: &mut [u8]) -> Place {
+    fn after(self, setting: usize, bit: u8, buffer: &mut [u8]) -> Place {
         match self {
-            Place::Between { since_start } => after_search_bit(since_start, bit),
+            Place::Between { since_start } => after_search_bit(setting, since_start, bit),
             Place::Inside {
                 position,
                 register,
@@ -151,19 +152,21 @@ impl Place {
     }
 }
 
-/// "the first place where 64 bits, all since that start, equal the tail"
-fn after_search_bit(mut since_start: Vec<u8>, bit: u8) -> Place {
+/// "the first place where 64 bits, all since that start," count as the tail;
+/// "scrambling still goes on from fifteen ones", whatever bits came.
+fn after_search_bit(setting: usize, mut since_start: Vec<u8>, bit: u8) -> Place {
     since_start.push(bit);
-    if since_start == tail() {
+    if since_start.len() < TAIL_BITS {
+        return Place::Between { since_start };
+    }
+    if counts_as_tail(setting, &since_start) {
         return Place::Inside {
             position: 0,
             register: AFTER_SYNC,
             waiting: Vec::new(),
         };
     }
-    if since_start.len() == TAIL_BITS {
-        since_start.remove(0);
-    }
+    since_start.remove(0);
     Place::Between { since_start }
 }
 
@@ -188,14 +191,24 @@ fn after_line_bit(
     }
 }
 
-/// One call of the reader. Refusals 1, 12, 2.
+/// Refusal 13 "for a setting above 6".
+pub fn served(setting: usize) -> Result<(), Refusal> {
+    refuse_if(setting > LARGEST_SETTING, refusal::SETTING)
+}
+
+/// One call of the reader. Refusals 1, 13, 12, 2.
+///
+/// The record does not hold the setting: the caller hands in "the same one in
+/// all calls on a recording". A call with another one is served.
 pub fn read(
     number: usize,
+    setting: usize,
     state: &mut State,
     piece: &[u8],
     buffer: &mut [u8],
 ) -> Result<Answer, Refusal> {
     format(number)?;
+    served(setting)?;
     refuse_if(impossible(state), refusal::STATE)?;
     refuse_if(buffer.len() < LINE_BYTES, refusal::SHORT_INPUT)?;
 
@@ -219,7 +232,7 @@ pub fn read(
     let mut place = Place::of(state);
     let mut used = 0;
     while used < incoming && !place.is_complete() {
-        place = place.after(bit_of(used), buffer);
+        place = place.after(setting, bit_of(used), buffer);
         used += 1;
     }
 
@@ -245,20 +258,22 @@ pub fn read(
     })
 }
 
-/// A recording that comes in pieces, read from its first bit.
+/// A recording that comes in pieces, read from its first bit at one setting.
 ///
 /// Not a call of the paper: it is how a caller is meant to drive [`read`].
 pub struct Recording {
     format: usize,
+    setting: usize,
     state: State,
     buffer: Vec<u8>,
     bytes_taken: usize,
 }
 
 impl Recording {
-    pub fn new(format: usize) -> Recording {
+    pub fn new(format: usize, setting: usize) -> Recording {
         Recording {
             format,
+            setting,
             state: State::default(),
             buffer: vec![0; LINE_BYTES],
             bytes_taken: 0,
@@ -273,7 +288,8 @@ impl Recording {
         mut each: impl FnMut(&[u8], usize),
     ) -> Result<(), Refusal> {
         while !piece.is_empty() {
-            let answer = read(self.format, &mut self.state, piece, &mut self.buffer)?;
+            let (state, buffer) = (&mut self.state, &mut self.buffer);
+            let answer = read(self.format, self.setting, state, piece, buffer)?;
             piece = &piece[answer.taken..];
             self.bytes_taken += answer.taken;
             if answer.complete {

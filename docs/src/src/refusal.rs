@@ -11,6 +11,9 @@ pub type Refusal = u8;
 /// "format is neither 1 nor 2"
 pub const FORMAT: Refusal = 1;
 
+/// Document 02, T-01: "13 for a setting above 6, tested after 1"
+pub const SETTING: Refusal = 13;
+
 /// "state record impossible: ... a segment mark above 24"
 pub const STATE: Refusal = 12;
 

@@ -3,12 +3,12 @@
 
 use crate::bits;
 use crate::blocks::ir_place;
-use crate::format::{HIRID, INFORMATION_BITS, LINE_BYTES, S_VISSR};
+use crate::format::{Format, HIRID, INFORMATION_BITS, LINE_BYTES, S_VISSR};
 use crate::lines;
 use crate::numbers::{read_bcd, read_i, read_r, R};
 use crate::pattern;
 use crate::reader::{read, State};
-use crate::scramble::{after_sync, sync, tail, turn};
+use crate::scramble::{after_sync, sync, tail, turn, TAIL_BITS};
 use crate::sectors::{accepted, check_word, join, put_data, SECTORS};
 
 fn hex(bytes: &[u8]) -> String {
@@ -42,14 +42,42 @@ fn doc_check_word(set_from_the_end: &[usize]) -> u16 {
 fn lines_of(tail_bits: usize, zero_bits: usize) -> usize {
     let mut recording = tail()[..tail_bits].to_vec();
     recording.extend(vec![0; zero_bits]);
-    lines::lines(&recording).len()
+    lines::lines(0, &recording).len()
 }
 
 fn read_zeros(piece: &[u8], buffer_bytes: usize) -> String {
-    match read(1, &mut State::default(), piece, &mut vec![0; buffer_bytes]) {
+    let mut buffer = vec![0; buffer_bytes];
+    match read(1, 0, &mut State::default(), piece, &mut buffer) {
         Ok(answer) => format!("taken {} complete {}", answer.taken, answer.complete),
         Err(number) => format!("refusal {number}"),
     }
+}
+
+/// What is searched of written lines: the dummy of a line and then the SYNC of
+/// the next one. Without a dummy it is SYNC, as at the start of a recording.
+pub fn dummy_and_sync(format: &Format) -> Vec<u8> {
+    let plain = vec![0; INFORMATION_BITS + format.dummy_bits];
+    let mut bits = turn(&plain).split_off(INFORMATION_BITS);
+    bits.extend(sync(format.sync_bits));
+    bits
+}
+
+/// The windows before the last one that come nearest to the tail: the number of
+/// places in which they differ from it, and where each begins.
+pub fn nearest_earlier(bits: &[u8]) -> (usize, Vec<usize>) {
+    let apart = |window| bits::differences(window, tail());
+    let distances: Vec<usize> = bits.windows(TAIL_BITS).map(apart).collect();
+    let (_last, earlier) = distances.split_last().expect("64 bits or more");
+    let least = *earlier.iter().min().expect("65 bits or more");
+    let places = (0..earlier.len()).filter(|&place| earlier[place] == least);
+    (least, places.collect())
+}
+
+fn nearest_row(name: &str, bits: &[u8]) -> String {
+    let (least, places) = nearest_earlier(bits);
+    format!(
+        "{name}: earlier windows are {least} or more places from the tail, {least} at {places:?}"
+    )
 }
 
 /// FNV-1a of 64 bits: from 14695981039346656037, each byte is taken in by
@@ -132,6 +160,12 @@ pub fn rows() -> Vec<String> {
         ));
     }
     add(format!("tail {}", hex(&bits::to_bytes(tail()))));
+    add(nearest_row("format 1 SYNC", &sync(S_VISSR.sync_bits)));
+    add(nearest_row("format 2 SYNC", &sync(HIRID.sync_bits)));
+    add(nearest_row(
+        "format 2 dummy and SYNC",
+        &dummy_and_sync(&HIRID),
+    ));
 
     for (index, sector) in SECTORS.iter().enumerate() {
         let mut id_and_data = sector.id();

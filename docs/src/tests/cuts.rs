@@ -1,16 +1,18 @@
 //! The reader against the plain definition of the lines: any cut of any
-//! recording, and any state record that the table does not call impossible.
+//! recording at any setting, and any state record that the table does not call
+//! impossible.
 
 use second::bits;
 use second::damage::{self, Random};
 use second::format::{INFORMATION_BITS, LINE_BYTES};
+use second::ice::Received;
 use second::lines::{after_first_tail, lines, Line};
 use second::reader::{impossible, read, Answer, Recording, State};
 use second::scramble::{after_sync, complement, tail, turn};
 
-fn read_in_pieces(format: usize, pieces: &[&[u8]]) -> Vec<Line> {
+fn read_in_pieces(format: usize, setting: usize, pieces: &[&[u8]]) -> Vec<Line> {
     let mut found = Vec::new();
-    let mut recording = Recording::new(format);
+    let mut recording = Recording::new(format, setting);
     for piece in pieces {
         recording
             .feed(piece, |line, end| {
@@ -24,26 +26,54 @@ fn read_in_pieces(format: usize, pieces: &[&[u8]]) -> Vec<Line> {
     found
 }
 
+/// Cuts a recording in many ways: its lines are the same in all of them.
+fn every_cut(format: usize, setting: usize, recording: &[u8], random: &mut Random, name: &str) {
+    let expected = lines(setting, &bits::from_bytes(recording));
+    for longest in [3, 200, 30_000, 120_000, recording.len()] {
+        let pieces = damage::cut(recording, longest, random);
+        let found = read_in_pieces(format, setting, &pieces);
+        assert!(found == expected, "{name}, {setting}, up to {longest}");
+    }
+    let found = read_in_pieces(format, setting, &[recording]);
+    assert!(found == expected, "{name}, {setting}");
+}
+
 #[test]
 fn every_cut_gives_the_lines_of_the_uncut_recording() {
     let mut random = Random::new(2);
     for format in [1, 2] {
         for kind in 0..damage::KINDS {
             let (name, recording) = damage::make(kind, format, &mut random);
-            let expected = lines(&bits::from_bytes(&recording));
-            for longest in [3, 200, 30_000, 120_000, recording.len()] {
-                let pieces = damage::cut(&recording, longest, &mut random);
-                let found = read_in_pieces(format, &pieces);
-                assert!(found == expected, "{name}, pieces up to {longest}");
+            // half of them at setting 0
+            let setting = random.under(2) * (1 + random.under(6));
+            every_cut(format, setting, &recording, &mut random, name);
+        }
+    }
+}
+
+/// The tails have from none to nine wrong bits, and now and then a place before
+/// the true one is near to the tail, too.
+#[test]
+fn every_cut_of_an_iced_recording_gives_its_lines() {
+    let mut random = Random::new(9);
+    for format in [1, 2] {
+        for setting in 0..=6 {
+            let mut received = Received::new(format, 2);
+            for k in 0..2 {
+                received.wrong_in_tail(k, random.under(10), &mut random);
             }
-            assert!(read_in_pieces(format, &[&recording]) == expected, "{name}");
+            if random.under(2) == 0 {
+                received.earlier(1, random.under(10), &mut random);
+            }
+            received.wrong_anywhere(20, &mut random);
+            every_cut(format, setting, &received.recording, &mut random, "iced");
         }
     }
 }
 
 #[test]
 fn the_kinds_of_recording_hold_what_they_say() {
-    let count = |recording: &[u8]| lines(&bits::from_bytes(recording)).len();
+    let count = |recording: &[u8]| lines(0, &bits::from_bytes(recording)).len();
     let mut random = Random::new(3);
     for format in [1, 2] {
         assert_eq!(count(&damage::good(format, 3)), 3);
@@ -60,7 +90,7 @@ fn the_kinds_of_recording_hold_what_they_say() {
     }
     for by in 0..8 {
         let shifted = damage::shifted(&damage::good(1, 2), by, &mut random);
-        let found = lines(&bits::from_bytes(&shifted));
+        let found = lines(0, &bits::from_bytes(&shifted));
         assert_eq!(found.len(), 2);
         assert_eq!(found[0].end, by + 8 * 45_606);
         assert_eq!(found[1].end, by + 16 * 45_606);
@@ -72,9 +102,9 @@ fn single_bytes_give_the_same_lines() {
     let mut random = Random::new(4);
     let recording = damage::shifted(&damage::good(1, 2), 5, &mut random);
     let pieces: Vec<&[u8]> = recording.chunks(1).collect();
-    let found = read_in_pieces(1, &pieces);
+    let found = read_in_pieces(1, 0, &pieces);
     assert_eq!(found.len(), 2);
-    assert!(found == lines(&bits::from_bytes(&recording)));
+    assert!(found == lines(0, &bits::from_bytes(&recording)));
 }
 
 /// "Nothing else is sought inside a line": a tail sent as line bits, right
@@ -86,37 +116,47 @@ fn a_tail_inside_a_line_is_line_bits() {
         recording.extend(vec![0; INFORMATION_BITS]);
         recording[64 + place..128 + place].copy_from_slice(tail());
         recording.extend(vec![0; 8 * 40_000]);
-        let found = lines(&recording);
-        assert_eq!(found.len(), 1);
-        assert_eq!(found[0].end, 64 + INFORMATION_BITS);
-        let bytes = bits::to_bytes(&recording);
-        assert!(read_in_pieces(1, &[&bytes]) == found);
+        for setting in [0, 6] {
+            let found = lines(setting, &recording);
+            assert_eq!(found.len(), 1);
+            assert_eq!(found[0].end, 64 + INFORMATION_BITS);
+            let bytes = bits::to_bytes(&recording);
+            assert!(read_in_pieces(1, setting, &[&bytes]) == found);
+        }
     }
 }
 
 /// "64 bits, all since that start": the last bits of a line and the first
-/// behind it do not make a tail.
+/// behind it do not make a tail, also where the setting lets as many differ as
+/// lie in the line.
 #[test]
 fn a_tail_across_the_end_of_a_line_is_not_one() {
-    for inside in [1, 30, 63] {
+    for inside in [1, 6, 30, 63] {
         let mut recording = tail().to_vec();
         recording.extend(vec![0; INFORMATION_BITS - inside]);
         recording.extend(tail());
         recording.extend(vec![0; INFORMATION_BITS + 8]);
         let filling = (8 - recording.len() % 8) % 8;
         recording.extend(vec![0; filling]);
-        let found = lines(&recording);
-        assert_eq!(found.len(), 1);
-        for longest in [1, 8, 50_000, 200_000] {
-            let bytes = bits::to_bytes(&recording);
-            let pieces: Vec<&[u8]> = bytes.chunks(longest).collect();
-            assert!(read_in_pieces(1, &pieces) == found);
+        for setting in [0, 6] {
+            let found = lines(setting, &recording);
+            assert_eq!(found.len(), 1);
+            for longest in [1, 8, 50_000, 200_000] {
+                let bytes = bits::to_bytes(&recording);
+                let pieces: Vec<&[u8]> = bytes.chunks(longest).collect();
+                assert!(read_in_pieces(1, setting, &pieces) == found);
+            }
         }
     }
 }
 
 /// What a call has to give, said over whole lists of bits.
-fn expected(state: &State, piece: &[u8], buffer: &[u8]) -> (Answer, State, Vec<u8>) {
+fn expected(
+    setting: usize,
+    state: &State,
+    piece: &[u8],
+    buffer: &[u8],
+) -> (Answer, State, Vec<u8>) {
     let unchanged = Answer {
         taken: 0,
         complete: false,
@@ -145,7 +185,7 @@ fn expected(state: &State, piece: &[u8], buffer: &[u8]) -> (Answer, State, Vec<u
         ));
         piece_starts = all.len();
         all.extend(bits::from_bytes(piece));
-        line_starts = after_first_tail(&all, 0);
+        line_starts = after_first_tail(setting, &all, 0);
     }
 
     let Some(line_starts) = line_starts else {
@@ -205,13 +245,13 @@ fn expected(state: &State, piece: &[u8], buffer: &[u8]) -> (Answer, State, Vec<u
     (answer, after, buffer)
 }
 
-fn check(state: State, piece: &[u8]) -> (Answer, State) {
+fn check(setting: usize, state: State, piece: &[u8]) -> (Answer, State) {
     assert!(!impossible(&state));
     let before = vec![0xEE; LINE_BYTES + 2];
-    let (answer, after, bytes) = expected(&state, piece, &before);
+    let (answer, after, bytes) = expected(setting, &state, piece, &before);
     let mut now = state;
     let mut buffer = before;
-    let given = read(1, &mut now, piece, &mut buffer).unwrap();
+    let given = read(1, setting, &mut now, piece, &mut buffer).unwrap();
     assert_eq!((given, now), (answer, after), "{state:?}");
     assert!(buffer == bytes, "{state:?}");
     assert!(piece.is_empty() || given.taken > 0);
@@ -259,7 +299,7 @@ fn made_up_records_between_lines_are_served() {
     for _ in 0..300 {
         let state = between(&mut random);
         let length = random.under(40);
-        check(state, &random.bytes(length));
+        check(random.under(7), state, &random.bytes(length));
     }
 }
 
@@ -273,25 +313,31 @@ fn made_up_records_inside_a_line_are_served() {
         };
         let state = inside(position, &mut random);
         let length = random.under(40);
-        check(state, &random.bytes(length));
+        check(random.under(7), state, &random.bytes(length));
     }
     for missing in 1..=20 {
         let state = inside(INFORMATION_BITS - missing, &mut random);
-        let (answer, after) = check(state, &random.bytes(3));
+        let (answer, after) = check(0, state, &random.bytes(3));
         assert!(answer.complete);
         assert_eq!(answer.taken, missing.div_ceil(8));
         assert_eq!(usize::from(after.unread_count), 8 * answer.taken - missing);
     }
 }
 
-/// The tail split over remembered bits, unread bits and piece, at every place.
+/// The tail split over remembered bits, unread bits and piece, at every place,
+/// with as many wrong bits as the setting lets pass.
 #[test]
 fn a_tail_may_end_anywhere_between_memory_and_piece() {
     let mut random = Random::new(7);
     for remembered in 0..=63 {
         for unread in 0..=7 {
-            let search = &tail()[..remembered];
-            let mut behind = tail()[remembered..].to_vec();
+            let setting = (remembered + unread) % 7;
+            let mut tail = tail().to_vec();
+            for i in 0..setting {
+                tail[(7 * remembered + 23 * i) % 64] ^= 1;
+            }
+            let search = &tail[..remembered];
+            let mut behind = tail[remembered..].to_vec();
             behind.extend(random.bits(8 * 20 + unread - behind.len()));
             let state = State {
                 search: bits::number(search),
@@ -300,7 +346,7 @@ fn a_tail_may_end_anywhere_between_memory_and_piece() {
                 unread_count: unread as u8,
                 ..State::default()
             };
-            let (answer, after) = check(state, &bits::to_bytes(&behind[unread..]));
+            let (answer, after) = check(setting, state, &bits::to_bytes(&behind[unread..]));
             assert_eq!((answer.taken, answer.complete), (20, false));
             assert!(after.in_line);
             assert_eq!(after.position, remembered + unread + 8 * 20 - 64);
@@ -327,7 +373,7 @@ fn a_line_may_start_inside_the_unread_bits() {
         ..State::default()
     };
     let piece = bits::to_bytes(&rest);
-    let (answer, after) = check(state, &piece);
+    let (answer, after) = check(0, state, &piece);
     assert!(answer.complete);
     assert_eq!(answer.taken, (INFORMATION_BITS - 6).div_ceil(8));
     assert_eq!(after.unread_count, 6);
@@ -342,7 +388,7 @@ fn the_register_holds_the_last_fifteen_scrambling_bits() {
     for length in [1_250, 1_251, 1_252, 1_300, 1_700] {
         let mut state = State::default();
         let mut buffer = vec![0; LINE_BYTES];
-        read(1, &mut state, &recording[..length], &mut buffer).unwrap();
+        read(1, 0, &mut state, &recording[..length], &mut buffer).unwrap();
         assert_eq!(state.position, 8 * (length - 1_250));
         let last_fifteen = &scrambling[state.position..state.position + 15];
         assert_eq!(u64::from(state.register), bits::number(last_fifteen));

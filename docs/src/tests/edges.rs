@@ -13,7 +13,7 @@ use second::sectors::{
     accepted, check_word, data, join, joined, pixels, put_data, put_pixels, remainder, CHECK_BITS,
     FILLER_BITS, SECTORS, STRIP_BYTES, VIS_PIXELS,
 };
-use second::vectors;
+use second::vectors::{self, dummy_and_sync, nearest_earlier};
 
 #[test]
 fn p1_the_first_four_scrambling_bytes() {
@@ -140,6 +140,8 @@ fn vectors_print_the_list() {
         "format 1 SYNC 10000 opens 101010010100000 ends 010101010101010 111111111111111",
         "format 2 SYNC 20000 opens 010001001100001 ends 010101010101010 111111111111111",
         "tail 4B BB B9 99 95 55 7F FF",
+        "format 1 SYNC: earlier windows are 9 or more places from the tail, 9 at [5782]",
+        "format 2 SYNC: earlier windows are 9 or more places from the tail, 9 at [5409, 6292, 15782]",
     ];
     assert_eq!(rows[..expected.len()], expected);
     assert!(rows.contains(&"sector 1 DOC of zeros: check word 0000".to_string()));
@@ -243,24 +245,50 @@ fn a_step_refuses_a_register_over_fifteen_bits() {
 #[test]
 fn no_window_before_the_true_one_equals_the_tail() {
     for length in [10_000, 20_000] {
-        assert_eq!(after_first_tail(&sync(length), 0), Some(length));
+        assert_eq!(after_first_tail(0, &sync(length), 0), Some(length));
     }
-    let plain = vec![0; INFORMATION_BITS + HIRID.dummy_bits];
-    let mut dummy_and_sync = turn(&plain).split_off(INFORMATION_BITS);
-    dummy_and_sync.extend(sync(20_000));
-    assert_eq!(after_first_tail(&dummy_and_sync, 0), Some(21_152 + 20_000));
+    let bits = dummy_and_sync(&HIRID);
+    assert_eq!(after_first_tail(0, &bits, 0), Some(21_152 + 20_000));
+}
+
+/// Document 02, T-01: "the smallest number of places in which any earlier
+/// searched window of what we write differs from the tail" is 9. Written lines
+/// come back at each setting below it, and no setting is above 6.
+#[test]
+fn every_window_before_the_true_one_is_nine_places_from_the_tail() {
+    let far = |bits: &[u8], places: &[usize]| {
+        assert_eq!(nearest_earlier(bits), (9, places.to_vec()));
+        for setting in 0..9 {
+            assert_eq!(after_first_tail(setting, bits, 0), Some(bits.len()));
+        }
+        assert_eq!(after_first_tail(9, bits, 0), Some(places[0] + 64));
+    };
+    far(&sync(10_000), &[5_782]);
+    // 20,000 bits of SYNC end with the 10,000: 15,782 is 5,782 again
+    far(&sync(20_000), &[5_409, 6_292, 15_782]);
+    // and none in the 21,152 bits of the dummy, nor where SYNC begins
+    let behind = [5_409, 6_292, 15_782].map(|place| 21_152 + place);
+    far(&dummy_and_sync(&HIRID), &behind);
+    assert_eq!(dummy_and_sync(&S_VISSR), sync(10_000));
+}
+
+/// Those that overlap the tail, which are all the earlier ones of 127 bits, are
+/// 13 places from it: up to six wrong bits in the tail and setting 6 make 12.
+#[test]
+fn windows_that_overlap_the_tail_are_thirteen_places_from_it() {
+    assert_eq!(nearest_earlier(&sync(127)).0, 13);
 }
 
 #[test]
 fn sixty_three_tail_bits_and_the_end_are_no_line() {
-    assert!(lines(&tail()[..63]).is_empty());
+    assert!(lines(0, &tail()[..63]).is_empty());
 
     // The same in bytes: one bit in front, so that 63 tail bits end the piece.
     let mut all = vec![1];
     all.extend(&tail()[..63]);
     let mut state = State::default();
     let mut buffer = vec![0; LINE_BYTES];
-    let answer = read(1, &mut state, &bits::to_bytes(&all), &mut buffer);
+    let answer = read(1, 0, &mut state, &bits::to_bytes(&all), &mut buffer);
     assert_eq!(
         answer,
         Ok(Answer {
@@ -288,11 +316,11 @@ fn tail_and(count: usize) -> Vec<u8> {
 #[test]
 fn the_line_is_complete_with_its_last_bit_and_not_before() {
     let short = tail_and(INFORMATION_BITS - 1);
-    assert!(lines(&short).is_empty());
+    assert!(lines(0, &short).is_empty());
     let mut state = State::default();
     let mut buffer = vec![0xEE; LINE_BYTES];
     let piece = bits::to_bytes(&short);
-    let answer = read(1, &mut state, &piece, &mut buffer).unwrap();
+    let answer = read(1, 0, &mut state, &piece, &mut buffer).unwrap();
     assert_eq!((answer.taken, answer.complete), (piece.len(), false));
     assert_eq!((state.position, state.waiting_count), (354_847, 7));
     // The last byte has seven of its bits only, so it has not changed.
@@ -300,14 +328,14 @@ fn the_line_is_complete_with_its_last_bit_and_not_before() {
     assert_eq!(buffer[LINE_BYTES - 1], 0xEE);
 
     let whole = tail_and(INFORMATION_BITS);
-    let found = lines(&whole);
+    let found = lines(0, &whole);
     assert_eq!(found.len(), 1);
     assert_eq!(found[0].bytes, vec![0; LINE_BYTES]);
     assert_eq!(found[0].end, whole.len());
     let mut state = State::default();
     let mut buffer = vec![0xEE; LINE_BYTES];
     let piece = bits::to_bytes(&whole);
-    let answer = read(1, &mut state, &piece, &mut buffer).unwrap();
+    let answer = read(1, 0, &mut state, &piece, &mut buffer).unwrap();
     assert_eq!((answer.taken, answer.complete), (piece.len(), true));
     assert_eq!(state, State::default());
     assert_eq!(buffer, vec![0; LINE_BYTES]);
@@ -317,7 +345,7 @@ fn the_line_is_complete_with_its_last_bit_and_not_before() {
 fn a_tail_at_the_end_of_a_piece_is_a_line_with_no_bits_yet() {
     let mut state = State::default();
     let mut buffer = vec![0xEE; LINE_BYTES];
-    read(2, &mut state, &bits::to_bytes(tail()), &mut buffer).unwrap();
+    read(2, 0, &mut state, &bits::to_bytes(tail()), &mut buffer).unwrap();
     let expected = State {
         in_line: true,
         register: 0x7FFF,
@@ -354,7 +382,7 @@ fn an_empty_piece_takes_nothing_and_changes_nothing() {
     for record in records {
         let mut state = record;
         let mut buffer = vec![0xEE; LINE_BYTES];
-        let answer = read(1, &mut state, &[], &mut buffer).unwrap();
+        let answer = read(1, 0, &mut state, &[], &mut buffer).unwrap();
         assert_eq!((answer.taken, answer.complete), (0, false));
         assert_eq!(state, record);
         assert_eq!(buffer, vec![0xEE; LINE_BYTES]);
@@ -364,9 +392,9 @@ fn an_empty_piece_takes_nothing_and_changes_nothing() {
 #[test]
 fn a_buffer_of_44355_bytes_is_refused() {
     let mut state = State::default();
-    assert_eq!(read(1, &mut state, &[0], &mut vec![0; 44_355]), Err(2));
-    assert_eq!(read(1, &mut state, &[], &mut vec![0; 44_355]), Err(2));
-    assert!(read(1, &mut state, &[0], &mut vec![0; 44_356]).is_ok());
+    assert_eq!(read(1, 0, &mut state, &[0], &mut vec![0; 44_355]), Err(2));
+    assert_eq!(read(1, 0, &mut state, &[], &mut vec![0; 44_355]), Err(2));
+    assert!(read(1, 0, &mut state, &[0], &mut vec![0; 44_356]).is_ok());
 }
 
 // "Errors that look right."

@@ -7,7 +7,7 @@ use second::sectors;
 
 /// All rows of a recording of plain lines.
 fn rows(format: usize, lines: impl Iterator<Item = Vec<u8>>) -> Vec<String> {
-    let mut fields = Fields::new(format);
+    let mut fields = Fields::new(format, 0);
     let mut rows = Vec::new();
     for line in lines {
         let wire = pattern::on_the_wire(format, &line).unwrap();
@@ -190,7 +190,7 @@ fn an_unfinished_line() {
         (45_605, Some(354_840)),
         (45_606, None),
     ] {
-        let mut fields = Fields::new(1);
+        let mut fields = Fields::new(1, 0);
         fields.feed(&wire[..bytes]).unwrap();
         assert_eq!(fields.unfinished(), bits, "{bytes} bytes");
     }
@@ -208,7 +208,7 @@ fn pieces_change_nothing() {
         let line = pattern::line(1, k).unwrap();
         recording.extend(pattern::on_the_wire(1, &line).unwrap());
     }
-    let mut fields = Fields::new(1);
+    let mut fields = Fields::new(1, 0);
     let mut pieces = Vec::new();
     for piece in recording.chunks(1_009) {
         pieces.extend(fields.feed(piece).unwrap());

@@ -18,8 +18,9 @@ use second::reader::{impossible, read, State};
 use second::scramble::write_line;
 use second::sectors::{self, check_word, SECTORS, STRIP_BYTES};
 
-/// The refusal numbers as the table lists them.
-const TABLE: [u8; 12] = [1, 12, 4, 10, 11, 2, 3, 5, 6, 7, 8, 9];
+/// The refusal numbers as the table lists them; 13 is document 02's, "tested
+/// after 1".
+const TABLE: [u8; 13] = [1, 13, 12, 4, 10, 11, 2, 3, 5, 6, 7, 8, 9];
 
 /// The faults of one call.
 struct Faults(Vec<u8>);
@@ -106,7 +107,7 @@ fn doc_with(line: &mut [u8], place: usize, bytes: &[u8]) {
 
 #[test]
 fn reading() {
-    every_set(&[1, 12, 2], |faults| {
+    every_set(&[1, 13, 12, 2], |faults| {
         let before = State {
             search: 1,
             search_count: 2,
@@ -115,13 +116,38 @@ fn reading() {
         };
         let mut state = before;
         let mut buffer = vec![0xEE; faults.pick(2, LINE_BYTES - 1, LINE_BYTES)];
-        let given = read(faults.pick(1, 3, 1), &mut state, &[0, 0], &mut buffer);
+        let (format, setting) = (faults.pick(1, 3, 1), faults.pick(13, 7, 6));
+        let given = read(format, setting, &mut state, &[0, 0], &mut buffer);
         if given.is_err() {
             assert_eq!(state, before);
         }
         assert!(buffer.iter().all(|&byte| byte == 0xEE));
         given.map(|_| ())
     });
+}
+
+/// "13 for a setting above 6": 6 is served and 7 is refused, with an empty
+/// piece too.
+#[test]
+fn settings() {
+    let mut buffer = vec![0xEE; LINE_BYTES];
+    for piece in [&[][..], &[0; 10]] {
+        for setting in 0..=6 {
+            let given = read(1, setting, &mut State::default(), piece, &mut buffer);
+            assert_eq!(given.map(|answer| answer.taken), Ok(piece.len()));
+        }
+        for setting in [7, 8, 64, 128, 255, 256, 262, usize::MAX] {
+            let mut state = State {
+                search: 5,
+                search_count: 60,
+                ..State::default()
+            };
+            let before = state;
+            let given = read(2, setting, &mut state, piece, &mut buffer);
+            assert_eq!((given, state), (Err(13), before), "{setting}");
+        }
+    }
+    assert!(buffer.iter().all(|&byte| byte == 0xEE));
 }
 
 #[test]
@@ -912,10 +938,11 @@ fn impossible_records() {
         assert!(impossible(&state), "{state:?}");
         let mut now = state;
         let mut buffer = vec![0xEE; LINE_BYTES];
-        assert_eq!(read(1, &mut now, &[1; 50], &mut buffer), Err(12));
-        assert_eq!(read(1, &mut now, &[], &mut buffer), Err(12));
-        assert_eq!(read(3, &mut now, &[], &mut buffer), Err(1));
-        assert_eq!(read(2, &mut now, &[], &mut []), Err(12));
+        assert_eq!(read(1, 0, &mut now, &[1; 50], &mut buffer), Err(12));
+        assert_eq!(read(1, 6, &mut now, &[], &mut buffer), Err(12));
+        assert_eq!(read(1, 7, &mut now, &[], &mut buffer), Err(13));
+        assert_eq!(read(3, 7, &mut now, &[], &mut buffer), Err(1));
+        assert_eq!(read(2, 0, &mut now, &[], &mut []), Err(12));
         assert_eq!(now, state);
         assert_eq!(buffer, vec![0xEE; LINE_BYTES]);
     }

@@ -2,7 +2,7 @@
 //! pattern through every call; the program's output.
 
 use std::io::Write;
-use std::process::{Command, Stdio};
+use std::process::{Command, Output, Stdio};
 
 use second::bits;
 use second::blocks::{self, Added, ALL_MARKS, BLOCKS};
@@ -23,11 +23,13 @@ fn a_written_line_reads_back() {
         let sent = random.bytes(LINE_BYTES);
         let mut wire = vec![0; format(number).unwrap().wire_bytes];
         write_line(number, &sent, &mut wire).unwrap();
-        let found = lines(&bits::from_bytes(&wire));
-        assert_eq!(found.len(), 1);
-        assert!(found[0].bytes == sent);
-        let dummy = format(number).unwrap().dummy_bits;
-        assert_eq!(found[0].end, 8 * wire.len() - dummy);
+        for setting in 0..=6 {
+            let found = lines(setting, &bits::from_bytes(&wire));
+            assert_eq!(found.len(), 1);
+            assert!(found[0].bytes == sent);
+            let dummy = format(number).unwrap().dummy_bits;
+            assert_eq!(found[0].end, 8 * wire.len() - dummy);
+        }
     }
 }
 
@@ -85,7 +87,7 @@ fn pixels_read_back_and_agree_with_the_data() {
 fn the_pattern_reads_back_through_every_sector_call() {
     for number in [1, 2] {
         let recording = damage::good(number, 2);
-        let found = lines(&bits::from_bytes(&recording));
+        let found = lines(0, &bits::from_bytes(&recording));
         assert_eq!(found.len(), 2);
         for (k, line) in found.iter().enumerate() {
             let k = k as u64;
@@ -328,8 +330,8 @@ fn the_listing_of_a_line_of_zeros() {
     let line = pattern::line_of_zeros(1).unwrap();
     let wire = pattern::on_the_wire(1, &line).unwrap();
     let expected = "line 1 good 12 filler 0\ntotal 1\n";
-    assert_eq!(listing::of_recording(1, &wire).unwrap(), expected);
-    assert_eq!(listing::of_recording(1, &[]).unwrap(), "total 0\n");
+    assert_eq!(listing::of_recording(1, 0, &wire).unwrap(), expected);
+    assert_eq!(listing::of_recording(1, 0, &[]).unwrap(), "total 0\n");
 }
 
 #[test]
@@ -352,7 +354,8 @@ fn the_listing_in_pieces_is_that_of_the_plain_definition() {
     for number in [1, 2] {
         for kind in 0..damage::KINDS {
             let (name, recording) = damage::make(kind, number, &mut random);
-            let mut listing = Listing::new(number);
+            let setting = random.under(7);
+            let mut listing = Listing::new(number, setting);
             let mut text = String::new();
             for piece in damage::cut(&recording, 65_536, &mut random) {
                 for row in listing.feed(piece).unwrap() {
@@ -360,7 +363,7 @@ fn the_listing_in_pieces_is_that_of_the_plain_definition() {
                 }
             }
             text += &(listing.total() + "\n");
-            let expected = listing::of_recording(number, &recording).unwrap();
+            let expected = listing::of_recording(number, setting, &recording).unwrap();
             assert_eq!(text, expected, "{name}");
         }
     }
@@ -368,18 +371,24 @@ fn the_listing_in_pieces_is_that_of_the_plain_definition() {
 
 /// Runs the program with some words and an input.
 fn run(words: &[&str], input: Vec<u8>) -> Vec<u8> {
+    let output = outcome(words, input);
+    assert!(output.status.success());
+    output.stdout
+}
+
+fn outcome(words: &[&str], input: Vec<u8>) -> Output {
     let mut child = Command::new(env!("CARGO_BIN_EXE_second"))
         .args(words)
         .stdin(Stdio::piped())
         .stdout(Stdio::piped())
+        .stderr(Stdio::piped())
         .spawn()
         .unwrap();
     let mut stdin = child.stdin.take().unwrap();
     let feeder = std::thread::spawn(move || stdin.write_all(&input));
     let output = child.wait_with_output().unwrap();
     let _ = feeder.join();
-    assert!(output.status.success());
-    output.stdout
+    output
 }
 
 #[test]
@@ -399,4 +408,36 @@ fn the_program() {
     }
     let vectors = String::from_utf8(run(&["vectors"], Vec::new())).unwrap();
     assert_eq!(vectors, second::vectors::rows().join("\n") + "\n");
+}
+
+/// `signal` with wrong bits, found at their number and not below it.
+#[test]
+fn the_program_at_a_setting() {
+    for format in ["1", "2"] {
+        let good = run(&["signal", "3", format, "0"], Vec::new());
+        assert!(good == damage::good(format.parse().unwrap(), 3));
+        let iced = run(&["signal", "3", format, "4"], Vec::new());
+        for verb in ["listing", "fields"] {
+            let as_sent = run(&[verb, format], good.clone());
+            assert!(run(&[verb, format, "4"], iced.clone()) == as_sent);
+            let none = run(&[verb, format, "3"], iced.clone());
+            assert!(none.ends_with(b"total 0\n"));
+            assert!(run(&[verb, format], iced.clone()) == none);
+        }
+    }
+    for (words, said) in [
+        (&["listing", "1", "7"], "refusal 13\n"),
+        (&["fields", "2", "7"], "refusal 13\n"),
+        (&["listing", "3", "7"], "refusal 1\n"),
+    ] {
+        let output = outcome(words, Vec::new());
+        assert_eq!(output.status.code(), Some(2));
+        assert_eq!((output.stdout, output.stderr), (vec![], said.into()));
+    }
+    assert!(outcome(&["signal", "1", "1", "64"], vec![])
+        .status
+        .success());
+    let output = outcome(&["signal", "1", "1", "65"], vec![]);
+    let said = "not a number of wrong bits, 0 to 64: 65\n";
+    assert_eq!((output.stdout, output.stderr), (vec![], said.into()));
 }

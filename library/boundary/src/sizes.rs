@@ -22,12 +22,14 @@ const STRIP: &str = "crates/visible/src/strip.rt";
 pub const BLOCK: &str = "crates/blocks/src/block.rt";
 const MARKS: &str = "crates/blocks/src/marks.rt";
 const SCRAMBLE: &str = "crates/scramble/src/lib.rt";
+pub const READER: &str = "crates/reader/src/lib.rt";
 const TWELVE: &str = "crates/rack_sector/src/lib.rt";
 
 /// Every size by its name in Rust; in the header the prefix comes before it.
-const SIZES: [(&str, &str, From); 28] = [
+const SIZES: [(&str, &str, From); 29] = [
     ("S_VISSR", FORMATS, Field("fn svissr()", "number")),
     ("HIRID", FORMATS, Field("fn hirid()", "number")),
+    ("LARGEST_SETTING", READER, Constants("LARGEST_SETTING")),
     ("LINE_BYTES", FORMATS, Constants("LINE_BYTES")),
     ("WIRE_BYTES_1", FORMATS, Constants("BYTES_1")),
     ("WIRE_BYTES_2", FORMATS, Constants("BYTES_2")),

@@ -9,7 +9,7 @@ use crate::shapes::*;
 pub const CALLS: usize = 41;
 
 /// All refusals, in the order in which they are tested.
-pub const ORDER: [u8; 12] = [1, 12, 4, 10, 11, 2, 3, 5, 6, 7, 8, 9];
+pub const ORDER: [u8; 13] = [1, 13, 12, 4, 10, 11, 2, 3, 5, 6, 7, 8, 9];
 
 /// A buffer of a call.
 #[derive(Clone, Copy, Debug, PartialEq, Eq)]
@@ -83,7 +83,7 @@ pub const ROWS: [Row; CALLS] = [
     row(Name::Step, "step", &[], &[REGISTER_LENT], STEPPED, &[12]),
     row(Name::PutSync, "put_sync", FORMAT, &[OUT], COUNT, &[1, 3]),
     row(Name::Fresh, "fresh", &[], &[], RECORD, &[]),
-    row(Name::Read, "read", READING, &[PIECE, LINE_WRITTEN], READ, &[1, 12, 2]),
+    row(Name::Read, "read", READING, &[PIECE, LINE_WRITTEN], READ, &[1, 13, 12, 2]),
     row(Name::WriteLine, "write_line", FORMAT, &[LINE, OUT], COUNT, &[1, 2, 3]),
     row(Name::Accepted, "accepted", SECTOR, &[LINE], ALONE, &[1, 4, 2, 5, 6]),
     row(Name::Answers, "answers", FORMAT, &[LINE], TWELVE, &[1, 2]),

@@ -15,6 +15,7 @@ pub const SECTOR: Numbers = &[("format", 8), ("sector", 8)];
 pub const CHANNEL: Numbers = &[("format", 8), ("channel", 8)];
 pub const READING: Numbers = &[
     ("format", 8),
+    ("setting", 8),
     ("position", 64),
     ("search", 64),
     ("register_", 16),
@@ -159,7 +160,7 @@ pub const KEEPS_REGISTER: Kept = Kept {
 };
 pub const KEEPS_RECORD: Kept = Kept {
     field: 3,
-    number: 1,
+    number: 2,
     count: 9,
 };
 pub const KEEPS_MARKS: Kept = Kept {

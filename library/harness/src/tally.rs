@@ -3,16 +3,19 @@
 
 use crate::rows::{Row, CALLS, ORDER, ROWS};
 
+/// Answers, and refusals up to the largest number.
+const PLACES: usize = ORDER.len() + 1;
+
 #[derive(Clone)]
 pub struct Tally {
     /// For each call: answered at 0, refused by number n at n.
-    counts: [[u64; 13]; CALLS],
+    counts: [[u64; PLACES]; CALLS],
 }
 
 impl Default for Tally {
     fn default() -> Tally {
         Tally {
-            counts: [[0; 13]; CALLS],
+            counts: [[0; PLACES]; CALLS],
         }
     }
 }

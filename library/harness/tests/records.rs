@@ -1,8 +1,11 @@
 //! The reader's records that are made: each clause of refusal 12 comes by
-//! itself and at its edge, and possible ones come up to the edge.
+//! itself and at its edge, and possible ones come up to the edge. Settings and
+//! tails likewise.
 
-use std::collections::BTreeMap;
+use std::collections::{BTreeMap, BTreeSet};
 
+use harness::call::Call;
+use harness::expected::expected;
 use harness::faults::Faults;
 use harness::make::Maker;
 use harness::rows::Name;
@@ -52,7 +55,7 @@ fn broken(r: &[u64]) -> Vec<&'static str> {
 fn records(seed: u64, faults: &Faults) -> Vec<Vec<u64>> {
     let mut maker = Maker::new(seed);
     (0..20_000)
-        .map(|_| maker.planned(Name::Read, faults).call.numbers[1..].to_vec())
+        .map(|_| maker.planned(Name::Read, faults).call.numbers[2..].to_vec())
         .collect()
 }
 
@@ -118,4 +121,56 @@ fn possible_records_come_up_to_the_edge() {
     // ones that no reading makes: a position between lines, a search in one
     assert!(records.iter().any(|r| r[3] == 0 && r[0] != 0 && r[2] != 0));
     assert!(records.iter().any(|r| r[3] == 1 && r[4] != 0));
+}
+
+fn settings(faults: &Faults) -> BTreeSet<u64> {
+    let mut maker = Maker::new(23);
+    let mut setting = || maker.planned(Name::Read, faults).call.numbers[1];
+    (0..2_000).map(|_| setting()).collect()
+}
+
+#[test]
+fn settings_come_up_to_the_edge_and_above_it() {
+    assert!(settings(&Faults::none()).into_iter().eq(0..=6));
+    let above = settings(&Faults::of(&[13]));
+    assert!([7, 8, 255].iter().all(|setting| above.contains(setting)));
+    assert!(above.into_iter().all(|setting| setting > 6));
+}
+
+/// How many bits of a line are in after a call at another setting.
+fn line_bits(call: &Call, setting: u64) -> Option<u64> {
+    let mut call = call.clone();
+    call.numbers[1] = setting;
+    let numbers = expected(&call).numbers;
+    (numbers[6] == 1).then_some(numbers[3])
+}
+
+/// At each setting a tail that counts just so comes, one that just does not, and
+/// one that counts just so before another that is nearer.
+#[test]
+fn tails_come_on_both_sides_of_the_setting() {
+    let mut maker = Maker::new(24);
+    let mut just = BTreeSet::new();
+    let mut just_not = BTreeSet::new();
+    let mut before_nearer = BTreeSet::new();
+    for _ in 0..20_000 {
+        let call = maker.planned(Name::Read, &Faults::none()).call;
+        let (setting, in_line) = (call.numbers[1], call.numbers[5]);
+        if in_line == 1 || call.lent[0].count() > 100 {
+            continue;
+        }
+        let here = line_bits(&call, setting);
+        if here.is_none() && setting < 6 && line_bits(&call, setting + 1).is_some() {
+            just_not.insert(setting);
+        }
+        if here.is_some() && setting > 0 {
+            match line_bits(&call, setting - 1) {
+                None => just.insert(setting),
+                below => below < here && before_nearer.insert(setting),
+            };
+        }
+    }
+    assert!(just.into_iter().eq(1..=6));
+    assert!(just_not.into_iter().eq(0..=5));
+    assert!(before_nearer.into_iter().eq(1..=6));
 }

@@ -23,7 +23,7 @@
 //! write_line(S_VISSR, &sent, &mut wire)?;
 //!
 //! let mut line = [0; LINE_BYTES];
-//! let mut reader = Reader::fresh(S_VISSR);
+//! let mut reader = Reader::fresh(S_VISSR, 0); // the exact tail
 //! let mut lines = 0;
 //! for piece in wire.chunks(1000) {
 //!     reader.take(piece, &mut line, |line| {

@@ -202,6 +202,7 @@ extern "C" {
     pub fn hansobrik_fresh() -> State;
     pub fn hansobrik_read(
         format: u8,
+        setting: u8,
         state: State,
         piece: *const u8,
         piece_count: usize,

@@ -22,15 +22,31 @@ pub fn fresh() -> State {
 
 /// Reads until a line is complete or the piece is used up. A complete line
 /// stands in the buffer until a later call finds the next tail. Refused with
-/// FORMAT, STATE, SHORT_INPUT; `line` must have 44,356 bytes or more.
+/// FORMAT, SETTING, STATE, SHORT_INPUT; `line` must have 44,356 bytes or more.
+///
+/// The setting, 0 to [`LARGEST_SETTING`](crate::LARGEST_SETTING), is how many
+/// bits of the tail may be wrong: the first 64 bits that differ from it in at
+/// most that many places count as the tail. 0 asks for the exact one. Where
+/// bits come wrong choose 4: then up to four wrong bits in any 64 neighbouring
+/// bits of SYNC and dummy never cost a line and never make a false one. 5 and 6
+/// bear as many in the tail, but in any other 64 bits only three and two. The
+/// record does not hold the setting: hand in the same one in all calls on a
+/// recording.
 ///
 /// The record that the library gives back is stored in any case: a refused
 /// call gives back the one that was handed in.
-pub fn read(format: u8, state: &mut State, piece: &[u8], line: &mut [u8]) -> Result<Read, Refusal> {
+pub fn read(
+    format: u8,
+    setting: u8,
+    state: &mut State,
+    piece: &[u8],
+    line: &mut [u8],
+) -> Result<Read, Refusal> {
     // SAFETY: pointers and counts are those of two slices that do not overlap.
     let a = unsafe {
         raw::hansobrik_read(
             format,
+            setting,
             *state,
             piece.as_ptr(),
             piece.len(),
@@ -48,22 +64,25 @@ pub fn read(format: u8, state: &mut State, piece: &[u8], line: &mut [u8]) -> Res
     )
 }
 
-/// A reader that hands its record on by itself, and takes every piece whole, so
-/// that neither record nor rest can be forgotten.
+/// A reader that hands its record and its setting on by itself, and takes every
+/// piece whole, so that neither record nor rest can be forgotten.
 ///
-/// Both fields may be stored and put back; [`State`] says which of its own may
+/// Its fields may be stored and put back; [`State`] says which of its own may
 /// be looked at.
 #[derive(Clone, Copy, Debug, PartialEq, Eq)]
 pub struct Reader {
     pub format: u8,
+    /// As [`read`] takes it, the same for the whole recording.
+    pub setting: u8,
     pub state: State,
 }
 
 impl Reader {
     /// A reader before a recording's first bit.
-    pub fn fresh(format: u8) -> Reader {
+    pub fn fresh(format: u8, setting: u8) -> Reader {
         Reader {
             format,
+            setting,
             state: fresh(),
         }
     }
@@ -79,7 +98,7 @@ impl Reader {
     ) -> Result<(), Refusal> {
         let mut rest = piece;
         loop {
-            let answer = read(self.format, &mut self.state, rest, line)?;
+            let answer = read(self.format, self.setting, &mut self.state, rest, line)?;
             rest = &rest[answer.taken..];
             if !answer.complete {
                 return Ok(());

@@ -2,13 +2,14 @@
 
 use core::fmt;
 
-/// The number of a refusal, one of the twelve below.
+/// The number of a refusal, one of the thirteen below.
 #[derive(Clone, Copy, Debug, PartialEq, Eq, Hash)]
 pub struct Refusal(pub u8);
 
 // In the order in which they are tested.
 impl Refusal {
     pub const FORMAT: Refusal = Refusal(1);
+    pub const SETTING: Refusal = Refusal(13);
     pub const STATE: Refusal = Refusal(12);
     pub const NUMBER: Refusal = Refusal(4);
     pub const RANGE: Refusal = Refusal(10);
@@ -25,6 +26,7 @@ impl Refusal {
     pub fn words(self) -> &'static str {
         match self {
             Refusal::FORMAT => "the format is neither 1 nor 2",
+            Refusal::SETTING => "the setting of a reader is above 6",
             Refusal::STATE => "the reader's record, the register or the marks are impossible",
             Refusal::NUMBER => {
                 "a sector, channel or block number that the call does not serve; \

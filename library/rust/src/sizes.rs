@@ -4,6 +4,9 @@
 pub const S_VISSR: u8 = 1;
 pub const HIRID: u8 = 2;
 
+/// Wrong bits of the tail, of its 64, that a reader may be told to bear.
+pub const LARGEST_SETTING: u8 = 6;
+
 /// One plain line.
 pub const LINE_BYTES: usize = 44_356;
 /// One line on the wire, format 1.

@@ -52,7 +52,7 @@ fn a_line_comes_back_byte_by_byte() {
         let mut state = fresh();
         let mut lines = 0;
         for byte in &wire[..count] {
-            let answer = read(format, &mut state, &[*byte], &mut line).unwrap();
+            let answer = read(format, 0, &mut state, &[*byte], &mut line).unwrap();
             assert_eq!(answer.taken, 1);
             lines += usize::from(answer.complete);
         }
@@ -84,7 +84,7 @@ fn a_reader_keeps_its_record_in_every_cut() {
     for format in [S_VISSR, HIRID] {
         let (sent, wire) = recording(format);
         for length in [1, 7, 4_096, WIRE_BYTES_1 - 1, wire.len()] {
-            let mut reader = Reader::fresh(format);
+            let mut reader = Reader::fresh(format, 0);
             let mut line = vec![0; LINE_BYTES];
             let mut lines = Vec::new();
             for piece in wire.chunks(length) {
@@ -96,7 +96,7 @@ fn a_reader_keeps_its_record_in_every_cut() {
         }
         // one that stops inside the second line, 1,000 bytes behind its SYNC
         let lengths = hansobrik::format(format).unwrap();
-        let mut reader = Reader::fresh(format);
+        let mut reader = Reader::fresh(format, 0);
         let end = lengths.bytes + lengths.sync_bits / 8 + 1_000;
         let mut line = vec![0; LINE_BYTES];
         reader.take(&wire[..end], &mut line, |_| ()).unwrap();
@@ -107,18 +107,47 @@ fn a_reader_keeps_its_record_in_every_cut() {
 #[test]
 fn a_refused_piece_can_be_taken_again() {
     let (sent, wire) = recording(S_VISSR);
-    let mut reader = Reader::fresh(S_VISSR);
+    let mut reader = Reader::fresh(S_VISSR, 0);
     let never = |_: &[u8]| panic!("a refused piece has no line");
     let mut short = vec![0; LINE_BYTES - 1];
     let refused = reader.take(&wire, &mut short, never);
     assert_eq!(refused, Err(Refusal::SHORT_INPUT));
-    assert_eq!(reader, Reader::fresh(S_VISSR));
+    assert_eq!(reader, Reader::fresh(S_VISSR, 0));
     let mut line = vec![0; LINE_BYTES];
     let mut lines = 0;
     reader.take(&wire, &mut line, |_| lines += 1).unwrap();
     assert_eq!(lines, sent.len());
-    let refused = Reader::fresh(3).take(&wire, &mut line, never);
+    let refused = Reader::fresh(3, 0).take(&wire, &mut line, never);
     assert_eq!(refused, Err(Refusal::FORMAT));
+    let refused = Reader::fresh(S_VISSR, LARGEST_SETTING + 1).take(&[], &mut line, never);
+    assert_eq!(refused, Err(Refusal::SETTING));
+}
+
+/// The tail, the last 64 bits of SYNC, with so many wrong bits in each line: a
+/// reader that bears as many gives every line, one that bears one less none.
+#[test]
+fn a_reader_bears_as_many_wrong_bits_as_its_setting_says() {
+    for format in [S_VISSR, HIRID] {
+        let lengths = hansobrik::format(format).unwrap();
+        let (sent, mut wire) = recording(format);
+        for setting in 0..=LARGEST_SETTING {
+            for less in 0..=setting.min(1) {
+                let mut reader = Reader::fresh(format, setting - less);
+                let mut line = vec![0; LINE_BYTES];
+                let mut lines = Vec::new();
+                for piece in wire.chunks(4_096) {
+                    let each = |line: &[u8]| lines.push(line.to_vec());
+                    reader.take(piece, &mut line, each).unwrap();
+                }
+                let expected = if less == 0 { &sent[..] } else { &[] };
+                assert!(lines == expected, "{setting} wrong bits, {less} less borne");
+            }
+            // one wrong bit more, in another byte of the tail
+            for line in wire.chunks_mut(lengths.bytes) {
+                line[lengths.sync_bits / 8 - 8 + usize::from(setting)] ^= 1;
+            }
+        }
+    }
 }
 
 /// The crate and the archive are of one version.
@@ -223,20 +252,22 @@ fn a_block_is_put_together() {
 fn a_refused_read_leaves_state_and_line() {
     let wire = [0x55; 10];
     let mut kept = fresh();
-    read(S_VISSR, &mut kept, &wire, &mut [0; LINE_BYTES]).unwrap();
+    read(S_VISSR, 0, &mut kept, &wire, &mut [0; LINE_BYTES]).unwrap();
     let impossible = State {
         in_line: 2,
         ..fresh()
     };
-    for (format, state, length, number) in [
-        (3, kept, LINE_BYTES, Refusal::FORMAT),
-        (3, impossible, 0, Refusal::FORMAT),
-        (1, impossible, 0, Refusal::STATE),
-        (2, kept, LINE_BYTES - 1, Refusal::SHORT_INPUT),
+    for (format, setting, state, length, number) in [
+        (3, 0, kept, LINE_BYTES, Refusal::FORMAT),
+        (3, 7, impossible, 0, Refusal::FORMAT),
+        (1, 7, kept, LINE_BYTES, Refusal::SETTING),
+        (1, 255, impossible, 0, Refusal::SETTING),
+        (1, 6, impossible, 0, Refusal::STATE),
+        (2, 6, kept, LINE_BYTES - 1, Refusal::SHORT_INPUT),
     ] {
         let mut after = state;
         assert!(leaves(&vec![0xA5; length], number, |line| {
-            read(format, &mut after, &wire, line)
+            read(format, setting, &mut after, &wire, line)
         }));
         assert_eq!(after, state);
     }
@@ -355,9 +386,13 @@ fn empty_slices_are_looked_at_by_nobody() {
         taken: 0,
         complete: false,
     };
-    assert_eq!(read(1, &mut state, &[], &mut [0; LINE_BYTES]), Ok(nothing));
+    let mut line = [0; LINE_BYTES];
+    assert_eq!(read(1, 0, &mut state, &[], &mut line), Ok(nothing));
     assert_eq!(state, fresh());
-    assert_eq!(read(1, &mut state, &[], &mut []), Err(Refusal::SHORT_INPUT));
+    let refused = read(1, 0, &mut state, &[], &mut []);
+    assert_eq!(refused, Err(Refusal::SHORT_INPUT));
+    let refused = read(1, 7, &mut state, &[], &mut []);
+    assert_eq!(refused, Err(Refusal::SETTING));
     assert_eq!(write_line(1, &[], &mut []), Err(Refusal::SHORT_INPUT));
     assert_eq!(put_sync(2, &mut []), Err(Refusal::SHORT_OUTPUT));
     assert_eq!(accepted(1, &[], 1), Err(Refusal::SHORT_INPUT));

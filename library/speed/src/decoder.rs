@@ -44,7 +44,7 @@ pub trait Decoder {
     fn begin(&mut self);
 
     /// One call of the reader: bytes taken, and whether a line is complete.
-    fn read(&mut self, piece: &[u8]) -> (usize, bool);
+    fn read(&mut self, setting: u8, piece: &[u8]) -> (usize, bool);
 
     // Of the line that was read last.
     fn accepted(&mut self, sector: u8) -> bool;

@@ -1,7 +1,7 @@
 //! The count of filler bits, beside others of the same in Rust.
 
-use crate::library::heading;
-use crate::timing::{in_turn, timed, Timed, QUICK_WORK};
+use crate::table::beside;
+use crate::timing::{timed, Timed, QUICK_WORK};
 use crate::words;
 use second::damage::Random;
 use second::sectors;
@@ -39,16 +39,7 @@ fn table(name: &str, line: &[u8], these: (u8, u8)) {
             count(line, these, second),
         ),
     ];
-    let (names, works): (Vec<&str>, Vec<Timed>) = rows.into_iter().unzip();
-    let times = in_turn(works);
-    println!();
-    heading(
-        &format!("| {name} | ns | ours is so many times faster |"),
-        "",
-    );
-    for (name, time) in names.iter().zip(&times) {
-        println!("| {name} | {time:.0} | {:.2} |", time / times[0]);
-    }
+    beside(name, "ours is so many times faster", rows);
 }
 
 /// The line is noise: about half of its filler bits are set. No sector of it is

@@ -4,7 +4,7 @@ use crate::input::{recording, Input};
 use crate::library::{heading, library, over, split};
 use crate::theirs::Theirs;
 use crate::timing::{in_turn, QUICK_WORK, SLOW_WORK};
-use crate::work::Work;
+use crate::work::{exactly, Work};
 
 /// The columns of one work: the library's, the second decoder's, and those of
 /// the library before; nanoseconds per line.
@@ -39,7 +39,7 @@ pub fn print() {
             wire: recording(1, lines),
             ..Input::new(1, 0)
         };
-        let alone = columns(Work::Read { piece: 4096 }, &input, lines);
+        let alone = columns(exactly(4096), &input, lines);
         let whole = columns(Work::Line, &input, lines);
         let pairs = alone.iter().zip(&whole);
         let pairs: String = pairs

@@ -1,6 +1,7 @@
 //! How long the library's calls take, beside the second decoder doing the same
-//! work and beside a copy of the same number of bytes; and the count of filler
-//! bits beside the same in Rust. Tables in Markdown.
+//! work and beside a copy of the same number of bytes; the reader at its
+//! settings; and the count of filler bits beside the same in Rust. Tables in
+//! Markdown.
 //!
 //! `library/speed/before` runs it with the feature `before`: then the tables
 //! also have the times of the library at an earlier commit.
@@ -11,6 +12,7 @@ mod growth;
 mod input;
 mod library;
 mod ours;
+mod settings;
 mod table;
 mod theirs;
 mod timing;
@@ -20,5 +22,6 @@ mod work;
 fn main() {
     table::print();
     growth::print();
+    settings::print();
     filler::print();
 }

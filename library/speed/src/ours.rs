@@ -1,5 +1,5 @@
 //! The library, and with the feature `before` that of an earlier commit: the
-//! same calls of another crate.
+//! same calls of another crate, but for a reader that takes no setting yet.
 
 use crate::decoder::{Decoder, Made};
 use crate::input::Input;
@@ -7,7 +7,7 @@ use crate::input::Input;
 const GOOD: &str = "a good line";
 
 macro_rules! decoder {
-    ($decoder:ident, $library:ident) => {
+    ($decoder:ident, $library:ident, $read:path) => {
         pub struct $decoder {
             format: u8,
             state: $library::State,
@@ -33,9 +33,9 @@ macro_rules! decoder {
                 self.state = $library::fresh();
             }
 
-            fn read(&mut self, piece: &[u8]) -> (usize, bool) {
-                let answer =
-                    $library::read(self.format, &mut self.state, piece, &mut self.made.line);
+            fn read(&mut self, setting: u8, piece: &[u8]) -> (usize, bool) {
+                let line = &mut self.made.line;
+                let answer = $read(self.format, setting, &mut self.state, piece, line);
                 let answer = answer.expect(GOOD);
                 (answer.taken, answer.complete)
             }
@@ -99,6 +99,22 @@ macro_rules! decoder {
     };
 }
 
-decoder!(Ours, hansobrik);
+decoder!(Ours, hansobrik, hansobrik::read);
 #[cfg(feature = "before")]
-decoder!(Before, before);
+decoder!(Before, before, read_before);
+
+#[cfg(feature = "before_setting")]
+use before::read as read_before;
+
+/// A reader without a setting asks for the exact tail, as one with 0 does.
+#[cfg(all(feature = "before", not(feature = "before_setting")))]
+fn read_before(
+    format: u8,
+    setting: u8,
+    state: &mut before::State,
+    piece: &[u8],
+    line: &mut [u8],
+) -> Result<before::Read, before::Refusal> {
+    assert_eq!(setting, 0, "the earlier reader takes no setting");
+    before::read(format, state, piece, line)
+}

@@ -3,8 +3,8 @@
 use crate::input::Input;
 use crate::library::{heading, library, over, split};
 use crate::theirs::Theirs;
-use crate::timing::{copy, in_turn, QUICK_WORK, SLOW_WORK};
-use crate::work::Work;
+use crate::timing::{copy, in_turn, Timed, QUICK_WORK, SLOW_WORK};
+use crate::work::{exactly, Work};
 use second::sectors::SECTORS;
 
 /// One line lasts 600 ms on the wire.
@@ -50,6 +50,18 @@ fn row(name: &str, format: u8, work: Work) {
     );
 }
 
+/// Several ways to do a work, in turn: what each takes, and in times of the
+/// first one.
+pub fn beside(name: &str, times_first: &str, rows: Vec<(&str, Timed)>) {
+    let (names, works): (Vec<&str>, Vec<Timed>) = rows.into_iter().unzip();
+    let times = in_turn(works);
+    println!();
+    heading(&format!("| {name} | ns | {times_first} |"), "");
+    for (name, time) in names.iter().zip(&times) {
+        println!("| {name} | {time:.0} | {:.2} |", time / times[0]);
+    }
+}
+
 pub fn print() {
     heading(
         "| work | bytes | ns | MB/s | second, ns | times ours | copy, ns | ours, in copies | of 600 ms |",
@@ -58,28 +70,16 @@ pub fn print() {
     row(
         "reader, one line in pieces of 4,096 bytes, format 1",
         1,
-        Work::Read { piece: 4096 },
+        exactly(4096),
     );
     row(
         "the same, the line buffer cleared first",
         1,
         Work::ReadCleared { piece: 4096 },
     );
-    row(
-        "reader, pieces of 1 byte, format 1",
-        1,
-        Work::Read { piece: 1 },
-    );
-    row(
-        "reader, one piece, format 1",
-        1,
-        Work::Read { piece: 45_606 },
-    );
-    row(
-        "reader, pieces of 4,096 bytes, format 2",
-        2,
-        Work::Read { piece: 4096 },
-    );
+    row("reader, pieces of 1 byte, format 1", 1, exactly(1));
+    row("reader, one piece, format 1", 1, exactly(45_606));
+    row("reader, pieces of 4,096 bytes, format 2", 2, exactly(4096));
     row("accepted, DOC", 1, Work::Accepted(1, 1));
     row("accepted, IR1 upper", 1, Work::Accepted(2, 2));
     row("accepted, VIS1", 1, Work::Accepted(5, 5));

@@ -31,8 +31,9 @@ impl Decoder for Theirs {
         self.state = reader::State::default();
     }
 
-    fn read(&mut self, piece: &[u8]) -> (usize, bool) {
-        let answer = reader::read(self.format, &mut self.state, piece, &mut self.made.line);
+    fn read(&mut self, setting: u8, piece: &[u8]) -> (usize, bool) {
+        let line = &mut self.made.line;
+        let answer = reader::read(self.format, setting.into(), &mut self.state, piece, line);
         let answer = answer.expect(GOOD);
         (answer.taken, answer.complete)
     }

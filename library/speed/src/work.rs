@@ -9,8 +9,9 @@ pub enum Work {
     /// One line of the wire, in pieces of so many bytes.
     Read {
         piece: usize,
+        setting: u8,
     },
-    /// The same, the line buffer cleared before each line.
+    /// The same with setting 0, the line buffer cleared before each line.
     ReadCleared {
         piece: usize,
     },
@@ -26,8 +27,14 @@ pub enum Work {
     FirstCopies,
     /// The same line once more.
     LaterCopies,
-    /// Everything that a line gives, read in pieces of 4,096 bytes.
+    /// Everything that a line gives, read in pieces of 4,096 bytes with setting
+    /// 0.
     Line,
+}
+
+/// One line of the wire, read with setting 0.
+pub fn exactly(piece: usize) -> Work {
+    Work::Read { piece, setting: 0 }
 }
 
 impl Work {
@@ -36,10 +43,10 @@ impl Work {
     pub fn run<D: Decoder>(self, decoder: &mut D, input: &Input) -> usize {
         let wire = black_box(&input.wire[..]);
         match self {
-            Work::Read { piece } => read(decoder, wire, piece, |_| 0),
+            Work::Read { piece, setting } => read(decoder, wire, setting, piece, |_| 0),
             Work::ReadCleared { piece } => {
                 black_box(&mut decoder.made().line[..]).fill(0);
-                read(decoder, wire, piece, |_| 0)
+                read(decoder, wire, 0, piece, |_| 0)
             }
             Work::Accepted(first, last) => accepted(decoder, first, last),
             Work::Filler(first, last) => filler(decoder, first, last),
@@ -55,7 +62,7 @@ impl Work {
                 blocks(decoder)
             }
             Work::LaterCopies => blocks(decoder),
-            Work::Line => read(decoder, wire, 4096, each_line),
+            Work::Line => read(decoder, wire, 0, 4096, each_line),
         }
     }
 }
@@ -64,6 +71,7 @@ impl Work {
 pub fn read<D: Decoder>(
     decoder: &mut D,
     recording: &[u8],
+    setting: u8,
     piece: usize,
     each: impl Fn(&mut D) -> usize,
 ) -> usize {
@@ -72,7 +80,7 @@ pub fn read<D: Decoder>(
     for piece in recording.chunks(piece) {
         let mut rest = piece;
         while !rest.is_empty() {
-            let (taken, complete) = decoder.read(rest);
+            let (taken, complete) = decoder.read(setting, rest);
             rest = &rest[taken..];
             if complete {
                 sum += 1 + each(decoder);
@@ -137,9 +145,9 @@ mod tests {
         let input = Input::new(1, 9);
         let (mut ours, mut theirs) = (Ours::new(1), Theirs::new(1));
         for work in [
-            Work::Read { piece: 1 },
+            exactly(1),
             Work::ReadCleared { piece: 4096 },
-            Work::Read { piece: 45_606 },
+            exactly(45_606),
             Work::Accepted(1, 12),
             Work::Filler(1, 12),
             Work::Joined(3),
@@ -155,6 +163,26 @@ mod tests {
             assert!(ours.made() == theirs.made());
         }
         assert!(ours.made().line == input.line);
+    }
+
+    /// With wrong bits in the tail, the last 64 bits of SYNC, both give the line
+    /// where the setting bears them, and none where it does not.
+    #[test]
+    fn both_bear_as_many_wrong_bits() {
+        let (mut ours, mut theirs) = (Ours::new(1), Theirs::new(1));
+        let mut input = Input::new(1, 9);
+        for wrong in 0..=hansobrik::LARGEST_SETTING {
+            for setting in [0, 4, 6] {
+                let work = Work::Read {
+                    piece: 4096,
+                    setting,
+                };
+                let lines = usize::from(wrong <= setting);
+                assert_eq!(work.run(&mut ours, &input), lines);
+                assert_eq!(work.run(&mut theirs, &input), lines);
+            }
+            input.wire[hansobrik::SYNC_BYTES_1 - 8 + usize::from(wrong)] ^= 1;
+        }
     }
 
     #[test]

@@ -5,10 +5,10 @@ use Rattle.command.proofs.asked_for.Statement.{statement}
 use Rattle.command.proofs.asked_for.Tie as tie
 
 abbrev Inv-loop : tie.InvT-loop
-Inv-loop most count a₀ place₀ a place = 0 ≤ place
+Inv-loop t count a₀ place₀ a place = 0 ≤ place
 
 abbrev μ-loop : tie.MeasureT-loop
-μ-loop most count a₀ place₀ a place = count - place
+μ-loop t count a₀ place₀ a place = count - place
 
 arg-count-requires : tie.Need-arg-count-requires Inv-loop μ-loop
 arg-count-requires c κs = search needs
@@ -31,6 +31,9 @@ loop-less c = search needs
 loop-again : tie.Need-loop-again Inv-loop μ-loop
 loop-again c = search needs
 
+closed-requires : tie.Need-closed-requires Inv-loop μ-loop
+closed-requires c κs = search needs
+
 returns : tie.Need-returns Inv-loop μ-loop
 returns c = search needs
 
@@ -47,4 +50,5 @@ asked-for-spec =
     add-place
     loop-less
     loop-again
+    closed-requires
     returns)

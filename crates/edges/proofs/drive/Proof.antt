@@ -6,10 +6,10 @@ use Rattle.edges.proofs.drive.Statement.{statement}
 use Rattle.edges.proofs.drive.Tie as tie
 
 abbrev Inv-loop : tie.InvT-loop
-Inv-loop rec size line₀ r₀ turns₀ line r turns = r .at ≤ length rec
+Inv-loop setting rec size line₀ r₀ turns₀ line r turns = r .at ≤ length rec
 
 abbrev μ-loop : tie.MeasureT-loop
-μ-loop rec size line₀ r₀ turns₀ line r turns = turns
+μ-loop setting rec size line₀ r₀ turns₀ line r turns = turns
 
 fresh-requires : tie.Need-fresh-requires Inv-loop μ-loop
 fresh-requires c κs = search needs

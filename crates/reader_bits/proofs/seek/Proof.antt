@@ -1,4 +1,5 @@
 -- `reader_bits::seek` meets its contract: at each bit the call that was begun is the call that is on its way. Assumes nothing.
+use mathlib.Core.Path.{sym, _∙_}
 use Prim.Native.Nat.{_-_, _/_, _^_}
 use native.Mathlib.Omega.{arith}
 use lib.Bits.{mask-lt}
@@ -10,19 +11,19 @@ use Rattle.reader_bits.proofs.seek.Statement.{statement}
 use Rattle.reader_bits.proofs.seek.Tie as tie
 
 abbrev Inv-loop : tie.InvT-loop
-Inv-loop piece count0 search0 left0 byte0 count₀ search₀ left₀ byte at count search left =
-    Way piece count0 search0 left0 byte0 at count search left byte
+Inv-loop setting piece count0 search0 left0 byte0 count₀ search₀ left₀ byte at count search left =
+    Way setting piece count0 search0 left0 byte0 at count search left byte
 
 abbrev μ-loop : tie.MeasureT-loop
-μ-loop piece count0 search0 left0 byte0 count₀ search₀ left₀ byte at count search left =
+μ-loop setting piece count0 search0 left0 byte0 count₀ search₀ left₀ byte at count search left =
     left
 
 abbrev Inv-seek : tie.InvT-seek
-Inv-seek piece count0 search0 left0 byte0 count₀ search₀ left₀ byte₀ at₀ count search left byte at =
-    Way piece count0 search0 left0 byte0 at count search left byte
+Inv-seek setting piece count0 search0 left0 byte0 count₀ search₀ left₀ byte₀ at₀ count search left byte at =
+    Way setting piece count0 search0 left0 byte0 at count search left byte
 
 abbrev μ-seek : tie.MeasureT-seek
-μ-seek piece count0 search0 left0 byte0 count₀ search₀ left₀ byte₀ at₀ count search left byte at =
+μ-seek setting piece count0 search0 left0 byte0 count₀ search₀ left₀ byte₀ at₀ count search left byte at =
     length piece - at
 
 seek-holds : tie.Need-seek-holds Inv-loop μ-loop Inv-seek μ-seek
@@ -57,11 +58,16 @@ loop-less c = search needs
 loop-again : tie.Need-loop-again Inv-loop μ-loop Inv-seek μ-seek
 loop-again c = way-short (c .before .before .loop .inv) _ (bit-and _ _) (omega (arith, c .before)) (omega arith)
 
+counts-as-tail-requires : tie.Need-counts-as-tail-requires Inv-loop μ-loop Inv-seek μ-seek
+counts-as-tail-requires c κs = search needs
+
 loop-less-2 : tie.Need-loop-less-2 Inv-loop μ-loop Inv-seek μ-seek
 loop-less-2 c = search needs
 
 loop-again-2 : tie.Need-loop-again-2 Inv-loop μ-loop Inv-seek μ-seek
-loop-again-2 c = way-miss (c .before .before .before .loop .inv) _ (bit-and _ _) (omega (arith, c .before .before)) (omega (arith, c .before)) (c .if2 .left)
+loop-again-2 c =
+    let at-test = c .before in
+    way-miss (at-test .before .before .before .loop .inv) _ (bit-and _ _) (omega (arith, at-test .before .before)) (omega (arith, at-test .before)) (sym (at-test .counts-as-tail .ensures) ∙ c .if2 .left)
 
 returns : tie.Need-returns Inv-loop μ-loop Inv-seek μ-seek
 returns c = way-end (c .before .before .loop .inv) (omega arith) (c .if3 .taken)
@@ -79,7 +85,9 @@ seek-again : tie.Need-seek-again Inv-loop μ-loop Inv-seek μ-seek
 seek-again c = way-byte (c .before .before .before .loop .inv) (omega arith) (omega arith)
 
 returns-2 : tie.Need-returns-2 Inv-loop μ-loop Inv-seek μ-seek
-returns-2 c = way-hit (c .before .before .before .loop .inv) _ (bit-and _ _) (omega (arith, c .before .before)) (omega (arith, c .before)) (c .if2 .taken)
+returns-2 c =
+    let at-test = c .before in
+    way-hit (at-test .before .before .before .loop .inv) _ (bit-and _ _) (omega (arith, at-test .before .before)) (omega (arith, at-test .before)) (sym (at-test .counts-as-tail .ensures) ∙ c .if2 .taken)
 
 pub seek-spec : {M : Type 1} → statement M
 seek-spec =
@@ -99,6 +107,7 @@ seek-spec =
     add-count
     loop-less
     loop-again
+    counts-as-tail-requires
     loop-less-2
     loop-again-2
     returns

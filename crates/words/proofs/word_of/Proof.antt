@@ -4,14 +4,19 @@ use borrow.Author.Needs.{needs}
 use Rattle.words.proofs.word_of.Statement.{statement}
 use Rattle.words.proofs.word_of.Tie as tie
 
+returns : tie.Need-returns
+returns c = rw (c .if1 .taken) refl
+
 slice-aggregate-is : tie.Need-slice-aggregate-is
 slice-aggregate-is c = search needs
 
 is-requires : tie.Need-is-requires
 is-requires c κs = search needs
 
-returns : tie.Need-returns
-returns c = rw (sym (c .before .is .ensures) ∙ c .if1 .taken) refl
+returns-2 : tie.Need-returns-2
+returns-2 c =
+    let none = c .before .before .before in
+    rw (none .if1 .left) (rw (sym (c .before .is .ensures) ∙ c .if2 .taken) refl)
 
 slice-aggregate-is-2 : tie.Need-slice-aggregate-is-2
 slice-aggregate-is-2 c = search needs
@@ -19,38 +24,67 @@ slice-aggregate-is-2 c = search needs
 is-requires-2 : tie.Need-is-requires-2
 is-requires-2 c κs = search needs
 
-returns-2 : tie.Need-returns-2
-returns-2 c =
+returns-3 : tie.Need-returns-3
+returns-3 c =
     let first = c .before .before .before in
-    rw (sym (first .before .is .ensures) ∙ first .if1 .left) (rw (sym (c .before .is2 .ensures) ∙ c .if2 .taken) refl)
+    let none = first .before .before .before in
+    rw (none .if1 .left)
+    (rw (sym (first .before .is .ensures) ∙ first .if2 .left) (rw (sym (c .before .is2 .ensures) ∙ c .if3 .taken) refl))
+
+slice-aggregate-is-3 : tie.Need-slice-aggregate-is-3
+slice-aggregate-is-3 c = search needs
+
+is-requires-3 : tie.Need-is-requires-3
+is-requires-3 c κs = search needs
+
+returns-4 : tie.Need-returns-4
+returns-4 c =
+    let second = c .before .before .before in
+    let first = second .before .before .before in
+    let none = first .before .before .before in
+    rw (none .if1 .left)
+    (rw (sym (first .before .is .ensures) ∙ first .if2 .left)
+    (rw (sym (second .before .is2 .ensures) ∙ second .if3 .left) (rw (sym (c .before .is3 .ensures) ∙ c .if4 .taken) refl)))
 
 is-option-requires : tie.Need-is-option-requires
 is-option-requires c κs = search needs
 
-returns-3 : tie.Need-returns-3
-returns-3 c =
-    let second = c .before .before in
+returns-5 : tie.Need-returns-5
+returns-5 c =
+    let third = c .before .before in
+    let second = third .before .before .before in
     let first = second .before .before .before in
-    rw (sym (first .before .is .ensures) ∙ first .if1 .left)
-    (rw (sym (second .before .is2 .ensures) ∙ second .if2 .left) (rw (sym (c .before .is-option .ensures) ∙ c .if3 .taken) refl))
+    let none = first .before .before .before in
+    rw (none .if1 .left)
+    (rw (sym (first .before .is .ensures) ∙ first .if2 .left)
+    (rw (sym (second .before .is2 .ensures) ∙ second .if3 .left)
+    (rw (sym (third .before .is3 .ensures) ∙ third .if4 .left) (rw (sym (c .before .is-option .ensures) ∙ c .if5 .taken) refl))))
 
-returns-4 : tie.Need-returns-4
-returns-4 c =
-    let second = c .before .before in
+returns-6 : tie.Need-returns-6
+returns-6 c =
+    let third = c .before .before in
+    let second = third .before .before .before in
     let first = second .before .before .before in
-    rw (sym (first .before .is .ensures) ∙ first .if1 .left)
-    (rw (sym (second .before .is2 .ensures) ∙ second .if2 .left) (rw (sym (c .before .is-option .ensures) ∙ c .if3 .left) refl))
+    let none = first .before .before .before in
+    rw (none .if1 .left)
+    (rw (sym (first .before .is .ensures) ∙ first .if2 .left)
+    (rw (sym (second .before .is2 .ensures) ∙ second .if3 .left)
+    (rw (sym (third .before .is3 .ensures) ∙ third .if4 .left) (rw (sym (c .before .is-option .ensures) ∙ c .if5 .left) refl))))
 
 pub word-of-spec : {M : Type 1} → statement M
 word-of-spec =
     tie.close
     (tie.spec
+    returns
     slice-aggregate-is
     is-requires
-    returns
+    returns-2
     slice-aggregate-is-2
     is-requires-2
-    returns-2
-    is-option-requires
     returns-3
-    returns-4)
+    slice-aggregate-is-3
+    is-requires-3
+    returns-4
+    is-option-requires
+    returns-5
+    returns-6)

@@ -1,10 +1,13 @@
 //! The second decoder as a program.
 //!
-//! - `second signal N FORMAT` writes a recording of N lines of the test
-//!   pattern; `second::pattern` says exactly what it is.
-//! - `second listing [FORMAT] < recording` lists the lines of a recording.
-//! - `second fields [FORMAT] < recording` writes the documentation fields of
-//!   every line, then what the assembled blocks say; see `second::fields`.
+//! - `second signal N FORMAT [W]` writes a recording of N lines of the test
+//!   pattern, with W wrong bits in each tail; `second::pattern` says exactly
+//!   what it is.
+//! - `second listing [FORMAT [SETTING]] < recording` lists the lines of a
+//!   recording. The setting is 0 where it is left out.
+//! - `second fields [FORMAT [SETTING]] < recording` writes the documentation
+//!   fields of every line, then what the assembled blocks say; see
+//!   `second::fields`.
 //! - `second vectors` prints worked values of the paper's edges.
 //! - `second zeros` writes one line of zeros with right IDs, check words and
 //!   filler, in format 1.
@@ -15,11 +18,12 @@ use std::process::ExitCode;
 
 use second::fields::Fields;
 use second::listing::Listing;
-use second::{pattern, refusal, vectors};
+use second::scramble::TAIL_BITS;
+use second::{pattern, reader, refusal, vectors};
 
-const USAGE: &str = "usage: second signal N FORMAT
-       second listing [FORMAT] < recording
-       second fields [FORMAT] < recording
+const USAGE: &str = "usage: second signal N FORMAT [W]
+       second listing [FORMAT [SETTING]] < recording
+       second fields [FORMAT [SETTING]] < recording
        second vectors
        second zeros";
 
@@ -29,12 +33,14 @@ fn refused(number: refusal::Refusal) -> Box<dyn Error> {
     format!("refusal {number}").into()
 }
 
-fn signal(lines: u64, format: usize) -> Outcome {
+fn signal(lines: u64, format: usize, wrong: usize) -> Outcome {
     second::format::format(format).map_err(refused)?;
+    if wrong > TAIL_BITS {
+        return Err(format!("not a number of wrong bits, 0 to 64: {wrong}").into());
+    }
     let mut out = io::stdout().lock();
     for k in 0..lines {
-        let line = pattern::line(format, k).map_err(refused)?;
-        out.write_all(&pattern::on_the_wire(format, &line).map_err(refused)?)?;
+        out.write_all(&pattern::signal(format, k, wrong).map_err(refused)?)?;
     }
     Ok(out.flush()?)
 }
@@ -68,17 +74,24 @@ fn follow(mut feed: impl FnMut(&[u8]) -> Result<Vec<String>, refusal::Refusal>) 
     }
 }
 
-fn listing(format: usize) -> Outcome {
+/// Refuses a format or a setting that is not served, also where nothing is
+/// read.
+fn served(format: usize, setting: usize) -> Outcome {
     second::format::format(format).map_err(refused)?;
-    let mut listing = Listing::new(format);
+    reader::served(setting).map_err(refused)
+}
+
+fn listing(format: usize, setting: usize) -> Outcome {
+    served(format, setting)?;
+    let mut listing = Listing::new(format, setting);
     follow(|piece| listing.feed(piece))?;
     tell(listing.unfinished());
     print([listing.total()])
 }
 
-fn fields(format: usize) -> Outcome {
-    second::format::format(format).map_err(refused)?;
-    let mut fields = Fields::new(format);
+fn fields(format: usize, setting: usize) -> Outcome {
+    served(format, setting)?;
+    let mut fields = Fields::new(format, setting);
     follow(|piece| fields.feed(piece))?;
     tell(fields.unfinished());
     print(fields.end())
@@ -92,11 +105,14 @@ fn zeros() -> Outcome {
 
 fn run(words: &[&str]) -> Outcome {
     match words {
-        ["signal", lines, format] => signal(lines.parse()?, format.parse()?),
-        ["listing"] => listing(1),
-        ["listing", format] => listing(format.parse()?),
-        ["fields"] => fields(1),
-        ["fields", format] => fields(format.parse()?),
+        ["signal", lines, format] => signal(lines.parse()?, format.parse()?, 0),
+        ["signal", lines, format, wrong] => signal(lines.parse()?, format.parse()?, wrong.parse()?),
+        ["listing"] => listing(1, 0),
+        ["listing", format] => listing(format.parse()?, 0),
+        ["listing", format, setting] => listing(format.parse()?, setting.parse()?),
+        ["fields"] => fields(1, 0),
+        ["fields", format] => fields(format.parse()?, 0),
+        ["fields", format, setting] => fields(format.parse()?, setting.parse()?),
         ["vectors"] => print(vectors::rows()),
         ["zeros"] => zeros(),
         _ => Err(USAGE.into()),

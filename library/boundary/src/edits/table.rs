@@ -5,7 +5,7 @@ use crate::calls::ORDERS;
 use crate::header::FILE as HEADER;
 use crate::numbers::{NAMED, NUMBERS, ORDER, TABLE};
 use crate::rust::{DOCUMENTATION, RAW, REFUSAL, SIZES};
-use crate::sizes::{BLOCK, FORMATS, LAYOUT};
+use crate::sizes::{BLOCK, FORMATS, LAYOUT, READER};
 use crate::version::MANIFEST;
 
 const GROUND: &str = "crates/rack_ground/src/lib.rt";
@@ -197,7 +197,15 @@ pub const EDITS: &[Edit] = &[
     ),
     texts(
         &[(RAW, "piece: *const u8", "piece: *mut u8")],
-        &["hansobrik_read: parameter 3", "*mut u8", "*const u8"],
+        &["hansobrik_read: parameter 4", "*mut u8", "*const u8"],
+    ),
+    texts(
+        &[(
+            RAW,
+            "format: u8, setting: u8, state",
+            "setting: u8, format: u8, state",
+        )],
+        &["hansobrik_read: parameter 1", "setting: u8", "format: u8"],
     ),
     texts(
         &[(
@@ -249,7 +257,7 @@ pub const EDITS: &[Edit] = &[
             "line: &mut [u8], piece: &[u8],",
         )],
         &[
-            "hansobrik_read: parameter 3",
+            "hansobrik_read: parameter 4",
             "const uint8_t *piece",
             "uint8_t *line",
         ],
@@ -331,17 +339,17 @@ pub const EDITS: &[Edit] = &[
         &[(
             NUMBERS,
             "pub const RANGE: u8 = 10;",
-            "pub const RANGE: u8 = 13;",
+            "pub const RANGE: u8 = 99;",
         )],
-        &[NUMBERS, "13", ORDER],
+        &[NUMBERS, "99", ORDER],
     ),
     texts(
-        &[(ORDER, "1 ∷ 12 ∷", "12 ∷ 1 ∷")],
-        &["order of testing is [12, 1,", ORDER],
+        &[(ORDER, "1 ∷ 13 ∷", "13 ∷ 1 ∷")],
+        &["order of testing is [13, 1,", ORDER],
     ),
     texts(
-        &[(TABLE, "| 12 | `STATE` |", "| 13 | `STATE` |")],
-        &[TABLE, "STATE is 13, but 12"],
+        &[(TABLE, "| 12 | `STATE` |", "| 99 | `STATE` |")],
+        &[TABLE, "STATE is 99, but 12"],
     ),
     texts(
         &[
@@ -377,12 +385,12 @@ pub const EDITS: &[Edit] = &[
     texts(
         &[(
             HEADER,
-            "Refused: FORMAT, STATE, SHORT_INPUT.",
-            "Refused: FORMAT, SHORT_INPUT.",
+            "Refused: FORMAT, SETTING, STATE, SHORT_INPUT.",
+            "Refused: FORMAT, STATE, SETTING, SHORT_INPUT.",
         )],
         &[
-            "hansobrik_read: refused with (FORMAT, SHORT_INPUT) by its comment",
-            "(FORMAT, STATE, SHORT_INPUT) by",
+            "hansobrik_read: refused with (FORMAT, STATE, SETTING, SHORT_INPUT) by its comment",
+            "(FORMAT, SETTING, STATE, SHORT_INPUT) by",
         ],
     ),
     texts(
@@ -449,6 +457,14 @@ pub const EDITS: &[Edit] = &[
             "SYNC_BITS_2: usize = 20008",
         )],
         &["HANSOBRIK_WIRE_BYTES_2 is 49500, but 49501", FORMATS],
+    ),
+    texts(
+        &[(
+            READER,
+            "LARGEST_SETTING: u8 = 6;",
+            "LARGEST_SETTING: u8 = 7;",
+        )],
+        &["HANSOBRIK_LARGEST_SETTING is 6, but 7", READER],
     ),
     texts(
         &[(BLOCK, "size: 10250,", "size: 10225,")],
@@ -578,7 +594,7 @@ pub const EDITS: &[Edit] = &[
         &[(RAW, "piece: *const u8", "piece: *mut u8")],
         &[
             "by rustc:",
-            "not raw::hansobrik_read as fn(u8, raw::State, *const u8, usize",
+            "not raw::hansobrik_read as fn(u8, u8, raw::State, *const u8, usize",
         ],
     ),
     compilers(

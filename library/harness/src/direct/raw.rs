@@ -32,7 +32,7 @@ pub fn through_rust(call: &Call) -> Outcome {
 /// Makes the call, and lays its answer out.
 fn made(call: &Call, [one, two]: &[Guarded; 2]) -> Vec<u64> {
     // numbers that a call does not have are 0 here, and not handed on
-    let mut n = [0; 10];
+    let mut n = [0; 11];
     n[..call.numbers.len()].copy_from_slice(&call.numbers);
     let (b0, b1, b2, b3) = (n[0] as u8, n[1] as u8, n[2] as u8, n[3] as u8);
     let (n0, n1, n2) = (n[0] as usize, n[1] as usize, n[2] as usize);
@@ -49,7 +49,7 @@ fn made(call: &Call, [one, two]: &[Guarded; 2]) -> Vec<u64> {
             Name::Step => step(hansobrik_step(one.words())),
             Name::PutSync => count(hansobrik_put_sync(b0, p, c)),
             Name::Fresh => record(hansobrik_fresh()),
-            Name::Read => read(hansobrik_read(b0, state(&n[1..]), p, c, q, d)),
+            Name::Read => read(hansobrik_read(b0, b1, state(&n[2..]), p, c, q, d)),
             Name::WriteLine => count(hansobrik_write_line(b0, p, c, q, d)),
             Name::Accepted => alone(hansobrik_accepted(b0, p, c, b1)),
             Name::Answers => twelve(hansobrik_answers(b0, p, c)),

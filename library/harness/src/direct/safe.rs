@@ -39,8 +39,10 @@ fn read(n: &[u64], lent: &mut [Lent]) -> Vec<u64> {
     let [piece, line] = lent else {
         panic!("two buffers are asked for");
     };
-    let mut state = state(&n[1..]);
-    let head = match safe::read(n[0] as u8, &mut state, piece.bytes(), line.bytes_mut()) {
+    let mut state = state(&n[2..]);
+    let (format, setting) = (n[0] as u8, n[1] as u8);
+    let (piece, line) = (piece.bytes(), line.bytes_mut());
+    let head = match safe::read(format, setting, &mut state, piece, line) {
         Ok(read) => vec![0, read.complete.into(), read.taken as u64],
         Err(Refusal(number)) => vec![number.into(), 0, 0],
     };

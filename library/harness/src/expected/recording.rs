@@ -43,12 +43,15 @@ pub fn fresh() -> Vec<u64> {
 
 pub fn read(n: &[u64], lent: &mut [Lent]) -> Answer {
     // The second decoder's flag is a bool; a flag that is neither 0 nor 1
-    // makes the record impossible, and 1 is tested before that.
-    format(n[0] as usize)?;
-    refuse_if(n[4] > 1, refusal::STATE)?;
-    let mut state = state(&n[1..]);
+    // makes the record impossible, and 1 and 13 are tested before that.
+    let (number, setting) = (n[0] as usize, n[1] as usize);
+    format(number)?;
+    reader::served(setting)?;
+    refuse_if(n[5] > 1, refusal::STATE)?;
+    let mut state = state(&n[2..]);
     let (piece, line) = two(lent);
-    let answer = reader::read(n[0] as usize, &mut state, piece.bytes(), line.bytes_mut())?;
+    let (piece, line) = (piece.bytes(), line.bytes_mut());
+    let answer = reader::read(number, setting, &mut state, piece, line)?;
     let mut all = vec![answer.complete.into(), answer.taken as u64];
     all.extend(fields(&state));
     Ok(all)

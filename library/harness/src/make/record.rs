@@ -4,6 +4,7 @@
 
 use second::bits;
 use second::format::INFORMATION_BITS;
+use second::ice;
 use second::scramble::tail;
 
 use super::Maker;
@@ -101,17 +102,37 @@ impl Maker {
         record
     }
 
-    /// A record and a piece with the tail, or all of it but one bit, somewhere
-    /// in its remembered bits, its unread bits and the piece.
-    pub fn at_a_tail(&mut self) -> (Record, Vec<u8>) {
+    /// The tail with some wrong bits: often as many as the setting lets pass, or
+    /// one more.
+    fn wrong_tail(&mut self, setting: usize) -> Vec<u8> {
+        let any = self.dice.between(0, 9);
+        let wrong = self
+            .dice
+            .pick(&[0, setting, setting, setting + 1, setting + 1, any]);
+        let mut tail = tail().to_vec();
+        for place in ice::places(wrong, tail.len(), self.dice.random()) {
+            tail[place] ^= 1;
+        }
+        tail
+    }
+
+    /// A record and a piece with the tail or nearly the tail somewhere in its
+    /// remembered bits, its unread bits and the piece. Now and then another one
+    /// follows, which is nearer or is not; or the first bits of a tail with
+    /// which everything starts are missing.
+    pub fn at_a_tail(&mut self, setting: usize) -> (Record, Vec<u8>) {
         let before = self.dice.pick(&[0, 0, 1, 7, 8, 30, 63, 64, 200]);
         let mut all = self.dice.random().bits(before);
-        all.extend(tail());
-        if self.dice.one_in(4) {
-            let wrong = before + self.dice.under(tail().len());
-            all[wrong] ^= 1;
+        all.extend(self.wrong_tail(setting));
+        if before == 0 && self.dice.one_in(3) {
+            all.drain(..self.dice.between(1, 6));
         }
-        let behind = self.dice.between(8, 128);
+        if self.dice.one_in(4) {
+            let between = self.dice.between(0, 70);
+            all.extend(self.dice.random().bits(between));
+            all.extend(self.wrong_tail(setting));
+        }
+        let behind = self.dice.between(13, 128);
         all.extend(self.dice.random().bits(behind));
 
         let remembered = self.dice.pick(&[0, 1, 31, 62, 63, 63, 63]);

@@ -35,23 +35,35 @@ impl Maker {
         [before, wire, behind].concat()
     }
 
-    fn possible(&mut self) -> (Record, Vec<u8>) {
+    /// 0 to 6, or a number above that.
+    fn setting(&mut self, wrong: bool) -> u64 {
+        let above = self.dice.between(7, 255);
+        let served = self.dice.between(0, 6);
+        let setting = match wrong {
+            true => self.dice.pick(&[7, 7, 7, 8, 64, 255, above]),
+            false => self.dice.pick(&[0, 0, 6, served, served]),
+        };
+        setting as u64
+    }
+
+    fn possible(&mut self, setting: u64) -> (Record, Vec<u8>) {
         match self.dice.under(1_000) {
             0 => (self.between_lines(), self.whole_line()),
             1..=300 => (self.between_lines(), self.short_piece()),
-            301..=600 => self.at_a_tail(),
+            301..=600 => self.at_a_tail(setting.min(6) as usize),
             _ => (self.inside_a_line(), self.short_piece()),
         }
     }
 
     pub fn read(&mut self, faults: &Faults) -> Asked {
         let format = self.format(faults);
-        let (mut record, piece) = self.possible();
+        let setting = self.setting(faults.has(13));
+        let (mut record, piece) = self.possible(setting);
         if faults.has(12) {
             self.make_impossible(&mut record);
         }
         let line = self.out(LINE_BYTES, faults.has(2));
-        let numbers = [vec![format], record.numbers().to_vec()].concat();
+        let numbers = [vec![format, setting], record.numbers().to_vec()].concat();
         let lent = vec![Lent::Bytes(piece), line];
         Asked::planned(Call::new(Name::Read, &numbers, lent), faults)
     }

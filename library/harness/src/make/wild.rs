@@ -48,6 +48,10 @@ impl Maker {
         let any = self.dice.of_any_length(bits);
         match (what, bits) {
             ("format", _) => self.dice.pick(&[1, 1, 1, 2, 2, 2, 0, 3, any]),
+            ("setting", _) => {
+                let served = self.dice.between(0, 6) as u64;
+                self.dice.pick(&[0, 0, 6, served, served, served, 7, any])
+            }
             ("marks", _) => {
                 let all = u64::from(ALL_MARKS);
                 let one = 1 << self.dice.under(32);

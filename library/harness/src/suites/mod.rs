@@ -2,9 +2,11 @@
 
 mod blocks;
 pub mod fillers;
+mod reading;
 mod recordings;
 mod sets;
 mod sweeps;
+pub mod tails;
 
 use crate::bench::{Bench, Difference};
 use crate::make::Maker;
@@ -16,6 +18,7 @@ pub fn run(bench: &mut Bench, maker: &mut Maker, rounds: u64) -> Result<(), Diff
         sets::run(bench, maker)?;
         sweeps::run(bench, maker)?;
         recordings::run(bench, maker)?;
+        tails::run(bench, maker)?;
         blocks::run(bench, maker)?;
         fillers::run(bench, maker, round == 1)?;
     }

@@ -1,81 +1,19 @@
 //! Whole recordings through the reader: damaged ones, at every bit offset, cut
-//! anywhere and into single bytes. What is handed out, line by line, is held
-//! to the plain definition over the uncut recording.
+//! anywhere and into single bytes, half of them at setting 0.
 
-use second::bits;
 use second::damage;
-use second::format::LINE_BYTES;
-use second::lines::{lines, Line};
 
+use super::reading::Reading;
 use crate::bench::{Bench, Difference};
 use crate::call::{Call, Lent};
 use crate::make::Maker;
 use crate::rows::Name;
 
-/// The flag of the record, and how many bits are unread, among its numbers.
-const IN_LINE: usize = 3;
-const UNREAD_COUNT: usize = 6;
-
-/// A recording on its way through the reader.
-struct Reading {
-    format: u64,
-    record: Vec<u64>,
-    line: Vec<u8>,
-    taken: usize,
-    found: Vec<Line>,
-}
-
-impl Reading {
-    fn new(format: u64) -> Reading {
-        Reading {
-            format,
-            record: vec![0; 9],
-            line: vec![0xEE; LINE_BYTES],
-            taken: 0,
-            found: Vec::new(),
-        }
-    }
-
-    /// Hands a piece over until it is used up; an empty one once.
-    fn feed(
-        &mut self,
-        bench: &mut Bench,
-        maker: &mut Maker,
-        piece: &[u8],
-    ) -> Result<(), Difference> {
-        let mut rest = piece;
-        loop {
-            // between lines the buffer may be exchanged for another one
-            if self.record[IN_LINE] == 0 && maker.dice.one_in(10) {
-                let length = LINE_BYTES + maker.dice.under(3);
-                self.line = maker.noise(length);
-            }
-            let taken = self.call(bench, rest)?;
-            rest = &rest[taken..];
-            if rest.is_empty() {
-                return Ok(());
-            }
-        }
-    }
-
-    /// One call; the bytes that it took.
-    fn call(&mut self, bench: &mut Bench, piece: &[u8]) -> Result<usize, Difference> {
-        let numbers = [vec![self.format], self.record.clone()].concat();
-        let line = std::mem::take(&mut self.line);
-        let lent = vec![Lent::Bytes(piece.to_vec()), Lent::Bytes(line)];
-        let mut outcome = bench.call(Call::new(Name::Read, &numbers, lent))?;
-
-        self.line = std::mem::take(outcome.lent[1].bytes_mut());
-        self.record = outcome.numbers[3..].to_vec();
-        let taken = outcome.numbers[2] as usize;
-        self.taken += taken;
-        if outcome.numbers[1] == 1 {
-            self.found.push(Line {
-                bytes: self.line[..LINE_BYTES].to_vec(),
-                end: 8 * self.taken - self.record[UNREAD_COUNT] as usize,
-            });
-        }
-        Ok(taken)
+/// Setting 0, or any that is served.
+fn setting(maker: &mut Maker) -> usize {
+    match maker.dice.one_in(2) {
+        true => 0,
+        false => maker.dice.between(0, 6),
     }
 }
 
@@ -87,19 +25,12 @@ fn play(
     pieces: &[&[u8]],
     what: &str,
 ) -> Result<(), Difference> {
-    let mut reading = Reading::new(format as u64);
+    let setting = setting(maker);
+    let mut reading = Reading::new(bench, maker, format, setting);
     for piece in pieces {
-        reading.feed(bench, maker, piece)?;
+        reading.feed(piece)?;
     }
-    let defined = lines(&bits::from_bytes(&pieces.concat()));
-    if reading.found == defined {
-        return Ok(());
-    }
-    Err(Difference(format!(
-        "{what} in format {format}: {} lines handed out, which are not the {} of the recording",
-        reading.found.len(),
-        defined.len()
-    )))
+    reading.finish(&pieces.concat(), what).map(|_| ())
 }
 
 /// The same, cut at random.
@@ -117,21 +48,24 @@ fn play_cut(
     play(bench, maker, format, &pieces, what)
 }
 
-/// A line written, and read again: it is the line.
+/// A line written, and read again: it is the line, at every setting.
 fn round_trip(bench: &mut Bench, maker: &mut Maker, format: usize) -> Result<(), Difference> {
     let line = maker.any_line();
     let wire = vec![0; second::format::format(format).expect("1 or 2").wire_bytes];
     let lent = vec![Lent::Bytes(line.clone()), Lent::Bytes(wire)];
     let written = bench.call(Call::new(Name::WriteLine, &[format as u64], lent))?;
 
-    let mut reading = Reading::new(format as u64);
-    for piece in damage::cut(written.lent[1].bytes(), 20_000, maker.dice.random()) {
-        reading.feed(bench, maker, piece)?;
+    let setting = setting(maker);
+    let pieces = damage::cut(written.lent[1].bytes(), 20_000, maker.dice.random());
+    let mut reading = Reading::new(bench, maker, format, setting);
+    for piece in pieces {
+        reading.feed(piece)?;
     }
     match reading.found.as_slice() {
         [found] if found.bytes == line => Ok(()),
         found => Err(Difference(format!(
-            "a line written in format {format} comes back as {} lines, or as another",
+            "a line written in format {format} comes back at setting {setting} as {} lines, or \
+             as another",
             found.len()
         ))),
     }
