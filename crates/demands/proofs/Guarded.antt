@@ -10,7 +10,8 @@ use borrow.Author.Tests.{le-leb, lt-leb, leb-true, leb-false}
 use lib.Dec.{T, leb, lit<, lit≤}
 use lib.ListN.{length, take, drop, length-append, length-drop, length-replicate, take-append-drop}
 use lib.Seq.{take-all, length-take-le, take-append-le, drop-append-le, drop-append-add, drop-drop}
-use Rattle.bits.specs.Bits.{apart}
+use Rattle.bits.specs.Bits.{stretch, apart}
+use Rattle.bits.proofs.Stretches.{stretch-length}
 use Rattle.bits.proofs.Distance.{apart-self, apart-sym, apart-triangle, apart-front, apart-take-le}
 use Rattle.formats.specs.Formats.{formatOf, informationBits}
 use Rattle.formats.specs.declared.Format.{Format}
@@ -65,9 +66,6 @@ close sent g j before over =
 
 -- ---- wrong bits
 
-window-long : (j : ℕ) (l : List ℕ) → j + 64 ≤ length l → length (take 64 (drop j l)) ≡ 64
-window-long j l h = length-take-le 64 (drop j l) (omega (arith, length-drop j l))
-
 -- A WINDOW NEAR ONE THAT IS FAR from the tail is no tail itself
 still-far : (k : ℕ) (s w : List ℕ) → length w ≡ 64 → apart s w + k < apart tail s → isTail k w ≡ false
 unfolding isTail
@@ -77,13 +75,13 @@ still-far k s w l far =
     lt-leb (apart tail w) k (omega arith)
 
 pub leading-leads : (k : ℕ) (sent got : List ℕ) → Guarded sent → Leading k sent got → LeadsTail k (length sent - 64) got
-unfolding isTail
+unfolding isTail stretch
 leading-leads k sent got g n =
     let h = g .long in
     let e = n .long in
     record {
       long = omega arith;
-      none-before = λ j lt. still-far k (take 64 (drop j sent)) (take 64 (drop j got)) (window-long j got (omega arith)) (n .earlier j (omega arith));
+      none-before = λ j lt. still-far k (take 64 (drop j sent)) (take 64 (drop j got)) (stretch-length got j 64 (omega arith)) (n .earlier j (omega arith));
       at-last = le-leb (apart tail (drop (length sent - 64) got)) k (subst (λ (t : List ℕ). apart t (drop (length sent - 64) got) ≤ k) (at-end sent g) (n .last));
     }
 

@@ -27,16 +27,16 @@ use Rattle.demands.proofs.Run.{found-none, runOf, Back, run-found}
 
 -- ---- what is written leads to its tails, at each setting below nine
 
-unwronged : (setting : ℕ) → setting < 9 → (sent : List ℕ) → Guarded sent → LeadsTail setting (length sent - 64) sent
-unwronged setting below sent g = leading-leads setting sent sent g (near-leading setting sent sent g (same-near setting below sent))
+sent-leads : (setting : ℕ) → setting < 9 → (sent : List ℕ) → Guarded sent → LeadsTail setting (length sent - 64) sent
+sent-leads setting below sent g = leading-leads setting sent sent g (near-leading setting sent sent g (same-near setting below sent))
 
 pub sync-leads : (n : ℕ) (f : Format) → formatOf n ≡ Is f → (setting : ℕ) → setting < 9 → LeadsTail setting (length (SYNC (f .sync)) - 64) (SYNC (f .sync))
-sync-leads n f e setting below = unwronged setting below (SYNC (f .sync)) (sync-guarded n f e)
+sync-leads n f e setting below = sent-leads setting below (SYNC (f .sync)) (sync-guarded n f e)
 
 pub dummy-leads : (n : ℕ) (f : Format) → formatOf n ≡ Is f → (setting : ℕ) → setting < 9
     → LeadsTail setting (length (dummyOf informationBits (f .dummy) ++ SYNC (f .sync)) - 64) (dummyOf informationBits (f .dummy) ++ SYNC (f .sync))
 dummy-leads n f e setting below =
-    unwronged setting below (dummyOf informationBits (f .dummy) ++ SYNC (f .sync)) (dummy-guarded n f e)
+    sent-leads setting below (dummyOf informationBits (f .dummy) ++ SYNC (f .sync)) (dummy-guarded n f e)
 
 -- ---- the recording, in bits
 
