@@ -10,17 +10,18 @@
  * - Buffers lent to one call must not overlap, and one that is written must not be read or written by anybody else meanwhile.
  * - Every call is safe from any thread on buffers of its own: the library has no memory of its own, keeps nothing between
  *   calls and takes no lock. Two calls at once may read the same buffer. What a caller keeps (a reader's record, a register,
- *   an assembly's marks) belongs to one recording, and one thread at a time hands it on.
+ *   an assembly's record) belongs to one recording, and one thread at a time hands it on.
  * - `refused`, or the number that comes back alone, is HANSOBRIK_OK or a refusal number. "Refused: FORMAT, STATE." in the
  *   comment of a call says that it gives HANSOBRIK_REFUSED_FORMAT or HANSOBRIK_REFUSED_STATE and no other, tested in this
  *   order. A refused call changes no buffer; its answer has 0 in every other field, but the reader's record, a register and
- *   an assembly's marks come back as they were handed in.
+ *   an assembly's record come back as they were handed in.
  * - Bytes of a buffer behind a call's result are kept.
  * - Numbers have the width that is declared: C cuts a wider one without a word, so compile with -Wconversion.
  *
- * Widths: the reader's record has fields of fixed width and 24 bytes without a gap on every machine, so one that was stored
- * is read on another machine of the same byte order. Counts and lengths are size_t and follow the machine. The proofs are
- * over sizes of 64 bits and the archive is made for such machines: where size_t has 4 bytes this header does not compile.
+ * Widths: the reader's record and an assembly's have fields of fixed width and 24 and 8 bytes without a gap on every machine,
+ * so one that was stored is read on another machine of the same byte order. Counts and lengths are size_t and follow the
+ * machine. The proofs are over sizes of 64 bits and the archive is made for such machines: where size_t has 4 bytes this header
+ * does not compile.
  *
  * C11 or C++11, or later. Link with libhansobrik.a (`pkg-config --cflags --libs hansobrik` where it is installed). The library
  * takes no memory; of the C library it needs memset alone.
@@ -42,10 +43,10 @@ _Static_assert(sizeof(size_t) == 8, "hansobrik: the library is made for machines
 /* ---- the version of this header ---- */
 
 #define HANSOBRIK_VERSION_MAJOR 0
-#define HANSOBRIK_VERSION_MINOR 3
+#define HANSOBRIK_VERSION_MINOR 4
 #define HANSOBRIK_VERSION_PATCH 0
 #define HANSOBRIK_VERSION (HANSOBRIK_VERSION_MAJOR * 10000 + HANSOBRIK_VERSION_MINOR * 100 + HANSOBRIK_VERSION_PATCH)
-#define HANSOBRIK_VERSION_TEXT "0.3.0"
+#define HANSOBRIK_VERSION_TEXT "0.4.0"
 
 /* ---- refusal numbers, in the order in which they are tested ---- */
 
@@ -64,6 +65,7 @@ enum {
     HANSOBRIK_REFUSED_REMAINDER = 5,    /* the sector's remainder is not 0 */
     HANSOBRIK_REFUSED_ID = 6,           /* the remainder is 0, the ID not the sector's own */
     HANSOBRIK_REFUSED_FIELD = 7,        /* BCD digit over 9, date part out of range, bad segment or repeat bytes */
+    HANSOBRIK_REFUSED_REVISION = 14,    /* the segment is of another revision of the tables than the assembly */
     HANSOBRIK_REFUSED_SEGMENT = 8,      /* the segment differs from the stored one */
     HANSOBRIK_REFUSED_UNFINISHED = 9    /* an entry of a block without all 25 segments */
 };
@@ -134,6 +136,15 @@ typedef struct {
     uint8_t waiting;       /* in a line: bits that wait for their byte */
     uint8_t waiting_count;
 } hansobrik_state;
+
+/* What an assembly keeps between calls. Every field 0 is a fresh one. A caller may look at all of it: at marks, and once a
+ * segment is marked at the two numbers, which say of which revision of the operator's tables the assembly is. Before that they
+ * say nothing. */
+typedef struct {
+    uint32_t marks;        /* bit s is set once segment s is stored */
+    uint16_t calibration;  /* calibration table ID, sector bytes 28-29 of the line that brought the first segment */
+    uint16_t manam;        /* MANAM revision, bytes 30-31 of that line */
+} hansobrik_assembly;
 
 typedef struct {
     uint8_t refused;
@@ -229,8 +240,13 @@ typedef struct {
     uint8_t refused;
     bool first_copy;
     uint8_t segment;
-    uint32_t marks;        /* for the next call */
+    hansobrik_assembly assembly; /* for the next call */
 } hansobrik_add_answer;
+
+typedef struct {
+    uint8_t refused;
+    uint16_t revision;     /* of MANAM the MANAM revision, of a calibration block the calibration table ID */
+} hansobrik_revision_answer;
 
 typedef struct {
     uint8_t refused;
@@ -239,6 +255,20 @@ typedef struct {
     int16_t latitude;      /* degrees north */
     int16_t longitude;     /* degrees east */
 } hansobrik_grid_answer;
+
+typedef struct {
+    uint8_t refused;
+    bool negative;         /* a negative zero is one */
+    uint8_t places;
+    uint16_t revision;     /* the calibration table ID of the block */
+    uint64_t magnitude;
+} hansobrik_level_answer;
+
+typedef struct {
+    uint8_t refused;
+    uint16_t revision;     /* the calibration table ID of the block */
+    double value;
+} hansobrik_level_float_answer;
 
 typedef struct {
     uint8_t refused;
@@ -395,34 +425,49 @@ hansobrik_float_answer hansobrik_f64_field(uint8_t format, const uint8_t *line, 
 
 /* ---- blocks, put together out of 25 segments ---- */
 
-/* The marks of an assembly that has no segment yet: 0. Never refused. */
-uint32_t hansobrik_no_marks(void);
+/* An assembly that has no segment yet: every field 0. Never refused. */
+hansobrik_assembly hansobrik_fresh_assembly(void);
 
-/* The segment of a block, MAPPING to CALIBRATION_2, that a line carries, added to marks and block buffer. Needs in line:
- * LINE_BYTES; in block: MAPPING_BYTES, ORBIT_BYTES, MANAM_BYTES, CALIBRATION_1_BYTES or CALIBRATION_2_BYTES, by number.
- * Refused: FORMAT, STATE, NUMBER, SHORT_INPUT, REMAINDER, ID, FIELD, SEGMENT. */
-hansobrik_add_answer hansobrik_add_segment(uint8_t format, uint32_t marks, const uint8_t *line, size_t line_count,
+/* The segment of a block, MAPPING to CALIBRATION_2, that a line carries, added to the block's assembly: its record, which comes
+ * back in the answer for the next call, and its block buffer. To begin an assembly hand in a fresh record; the block buffer may
+ * hold anything.
+ *
+ * The record takes calibration table ID and MANAM revision from the line that brings the first segment, and keeps them. For
+ * CALIBRATION_1 and CALIBRATION_2 a line with another calibration table ID is refused with REVISION, for MANAM one with another
+ * MANAM revision, equal copies too; MAPPING and ORBIT go by neither. So after a change of the operator's tables every line is
+ * refused with REVISION until the caller begins a new assembly.
+ *
+ * Needs in line: LINE_BYTES; in block: MAPPING_BYTES, ORBIT_BYTES, MANAM_BYTES, CALIBRATION_1_BYTES or CALIBRATION_2_BYTES, by
+ * number. Refused: FORMAT, STATE, NUMBER, SHORT_INPUT, REMAINDER, ID, FIELD, REVISION, SEGMENT. */
+hansobrik_add_answer hansobrik_add_segment(uint8_t format, hansobrik_assembly assembly, const uint8_t *line, size_t line_count,
                                            uint8_t number, uint8_t *block, size_t block_count);
+
+/* Of which revision of the operator's tables a finished block is: MANAM, CALIBRATION_1 or CALIBRATION_2, no other. Needs in
+ * block: MANAM_BYTES, CALIBRATION_1_BYTES or CALIBRATION_2_BYTES, by number.
+ * Refused: FORMAT, STATE, NUMBER, SHORT_INPUT, UNFINISHED. */
+hansobrik_revision_answer hansobrik_revision(uint8_t format, hansobrik_assembly assembly, uint8_t number, const uint8_t *block,
+                                             size_t block_count);
 
 /* A point of a finished mapping block, row and column 0 to 24. Needs in block: MAPPING_BYTES.
  * Refused: FORMAT, STATE, RANGE, SHORT_INPUT, UNFINISHED. */
-hansobrik_grid_answer hansobrik_mapping(uint8_t format, uint32_t marks, const uint8_t *block, size_t block_count,
+hansobrik_grid_answer hansobrik_mapping(uint8_t format, hansobrik_assembly assembly, const uint8_t *block, size_t block_count,
                                         uint16_t row, uint16_t column);
 
-/* A level of a finished calibration-2 block: albedo of VIS 1 to 4 (0 to 63), temperature of IR 1 to 4 (0 to 1,023). Needs in
- * block: CALIBRATION_2_BYTES. Refused: FORMAT, STATE, NUMBER, RANGE, SHORT_INPUT, UNFINISHED. */
-hansobrik_real_answer hansobrik_albedo(uint8_t format, uint32_t marks, const uint8_t *block, size_t block_count,
-                                       uint8_t channel, uint16_t level);
-hansobrik_float_answer hansobrik_albedo_f64(uint8_t format, uint32_t marks, const uint8_t *block, size_t block_count,
-                                            uint8_t channel, uint16_t level);
-hansobrik_real_answer hansobrik_temperature(uint8_t format, uint32_t marks, const uint8_t *block, size_t block_count,
-                                            uint8_t channel, uint16_t level);
-hansobrik_float_answer hansobrik_temperature_f64(uint8_t format, uint32_t marks, const uint8_t *block, size_t block_count,
-                                                 uint8_t channel, uint16_t level);
+/* A level of a finished calibration-2 block: albedo of VIS 1 to 4 (0 to 63), temperature of IR 1 to 4 (0 to 1,023); and which
+ * revision it is of. Needs in block: CALIBRATION_2_BYTES. Refused: FORMAT, STATE, NUMBER, RANGE, SHORT_INPUT, UNFINISHED. */
+hansobrik_level_answer hansobrik_albedo(uint8_t format, hansobrik_assembly assembly, const uint8_t *block, size_t block_count,
+                                        uint8_t channel, uint16_t level);
+hansobrik_level_float_answer hansobrik_albedo_f64(uint8_t format, hansobrik_assembly assembly, const uint8_t *block,
+                                                  size_t block_count, uint8_t channel, uint16_t level);
+hansobrik_level_answer hansobrik_temperature(uint8_t format, hansobrik_assembly assembly, const uint8_t *block,
+                                             size_t block_count, uint8_t channel, uint16_t level);
+hansobrik_level_float_answer hansobrik_temperature_f64(uint8_t format, hansobrik_assembly assembly, const uint8_t *block,
+                                                       size_t block_count, uint8_t channel, uint16_t level);
 
 /* The orbital elements of a finished orbit block. Needs in block: ORBIT_BYTES.
  * Refused: FORMAT, STATE, SHORT_INPUT, UNFINISHED. */
-hansobrik_orbit_answer hansobrik_elements(uint8_t format, uint32_t marks, const uint8_t *block, size_t block_count);
+hansobrik_orbit_answer hansobrik_elements(uint8_t format, hansobrik_assembly assembly, const uint8_t *block,
+                                          size_t block_count);
 
 /* ---- helpers, which stand here whole: plain C, tested and not proved ---- */
 
@@ -446,6 +491,7 @@ hansobrik_refusal_words(uint8_t number)
     case HANSOBRIK_REFUSED_REMAINDER: return "the sector's remainder is not 0";
     case HANSOBRIK_REFUSED_ID: return "the remainder is 0, the ID not the sector's own";
     case HANSOBRIK_REFUSED_FIELD: return "BCD digit over 9, date part out of range, bad segment or repeat bytes";
+    case HANSOBRIK_REFUSED_REVISION: return "the segment is of another revision of the tables than the assembly";
     case HANSOBRIK_REFUSED_SEGMENT: return "the segment differs from the stored one";
     case HANSOBRIK_REFUSED_UNFINISHED: return "an entry of a block without all 25 segments";
     default: return "a number that the library does not give";

@@ -30,7 +30,7 @@ enum {
     READ_INTEGER, READ_BCD, READ_REAL, READ_F64, PUT_REAL,
     SCAN_MODE, SCANNER_SELECT, LINE_NUMBERS, DATE, SUB_COMMUTATION,
     INTEGER_FIELD, BCD_FIELD, REAL_FIELD, F64_FIELD,
-    NO_MARKS, ADD_SEGMENT, MAPPING, ALBEDO, ALBEDO_F64, TEMPERATURE, TEMPERATURE_F64, ELEMENTS,
+    FRESH_ASSEMBLY, ADD_SEGMENT, REVISION, MAPPING, ALBEDO, ALBEDO_F64, TEMPERATURE, TEMPERATURE_F64, ELEMENTS,
     SPOIL
 };
 
@@ -206,6 +206,15 @@ static hansobrik_state state(size_t i)
     return s;
 }
 
+static hansobrik_assembly assembly(size_t i)
+{
+    hansobrik_assembly a;
+    a.marks = u32(i);
+    a.calibration = u16(i + 1);
+    a.manam = u16(i + 2);
+    return a;
+}
+
 /* ---- what it answers: every field of each kind of answer ---- */
 
 static void say(uint64_t field)
@@ -243,6 +252,13 @@ static void say_state(hansobrik_state s)
     say(s.unread_count);
     say(s.waiting);
     say(s.waiting_count);
+}
+
+static void say_assembly(hansobrik_assembly a)
+{
+    say(a.marks);
+    say(a.calibration);
+    say(a.manam);
 }
 
 static void say_format(hansobrik_format_answer a)
@@ -356,7 +372,13 @@ static void say_add(hansobrik_add_answer a)
     say(a.refused);
     say_bool(&a.first_copy);
     say(a.segment);
-    say(a.marks);
+    say_assembly(a.assembly);
+}
+
+static void say_revision(hansobrik_revision_answer a)
+{
+    say(a.refused);
+    say(a.revision);
 }
 
 static void say_grid(hansobrik_grid_answer a)
@@ -366,6 +388,22 @@ static void say_grid(hansobrik_grid_answer a)
     say(a.pixel);
     say_signed(a.latitude);
     say_signed(a.longitude);
+}
+
+static void say_level(hansobrik_level_answer a)
+{
+    say(a.refused);
+    say_bool(&a.negative);
+    say(a.places);
+    say(a.revision);
+    say(a.magnitude);
+}
+
+static void say_level_float(hansobrik_level_float_answer a)
+{
+    say(a.refused);
+    say(a.revision);
+    say_double(a.value);
 }
 
 static void say_orbit(hansobrik_orbit_answer a)
@@ -434,18 +472,19 @@ static void call(uint64_t which, size_t buffer_count)
     case REAL_FIELD: say_real(hansobrik_real_field(u8(0), seen(0), count(0), size(1), size(2), u8(3))); break;
     case F64_FIELD: say_float(hansobrik_f64_field(u8(0), seen(0), count(0), size(1), size(2), u8(3))); break;
 
-    case NO_MARKS: say(hansobrik_no_marks()); break;
+    case FRESH_ASSEMBLY: say_assembly(hansobrik_fresh_assembly()); break;
     case ADD_SEGMENT:
-        say_add(hansobrik_add_segment(u8(0), u32(1), seen(0), count(0), u8(2), lent(1), count(1)));
+        say_add(hansobrik_add_segment(u8(0), assembly(1), seen(0), count(0), u8(4), lent(1), count(1)));
         break;
-    case MAPPING: say_grid(hansobrik_mapping(u8(0), u32(1), seen(0), count(0), u16(2), u16(3))); break;
-    case ALBEDO: say_real(hansobrik_albedo(u8(0), u32(1), seen(0), count(0), u8(2), u16(3))); break;
-    case ALBEDO_F64: say_float(hansobrik_albedo_f64(u8(0), u32(1), seen(0), count(0), u8(2), u16(3))); break;
-    case TEMPERATURE: say_real(hansobrik_temperature(u8(0), u32(1), seen(0), count(0), u8(2), u16(3))); break;
+    case REVISION: say_revision(hansobrik_revision(u8(0), assembly(1), u8(4), seen(0), count(0))); break;
+    case MAPPING: say_grid(hansobrik_mapping(u8(0), assembly(1), seen(0), count(0), u16(4), u16(5))); break;
+    case ALBEDO: say_level(hansobrik_albedo(u8(0), assembly(1), seen(0), count(0), u8(4), u16(5))); break;
+    case ALBEDO_F64: say_level_float(hansobrik_albedo_f64(u8(0), assembly(1), seen(0), count(0), u8(4), u16(5))); break;
+    case TEMPERATURE: say_level(hansobrik_temperature(u8(0), assembly(1), seen(0), count(0), u8(4), u16(5))); break;
     case TEMPERATURE_F64:
-        say_float(hansobrik_temperature_f64(u8(0), u32(1), seen(0), count(0), u8(2), u16(3)));
+        say_level_float(hansobrik_temperature_f64(u8(0), assembly(1), seen(0), count(0), u8(4), u16(5)));
         break;
-    case ELEMENTS: say_orbit(hansobrik_elements(u8(0), u32(1), seen(0), count(0))); break;
+    case ELEMENTS: say_orbit(hansobrik_elements(u8(0), assembly(1), seen(0), count(0))); break;
 
     case SPOIL: spoil(buffer_count); break;
     default: stop("no such call");

@@ -36,15 +36,15 @@ static void version(void)
     expect(strcmp(text, HANSOBRIK_VERSION_TEXT) == 0, "the version's text is the archive's number", number);
 }
 
-/* 0 to 13 have words of their own, and all the others the same ones. */
+/* 0 to 14 have words of their own, and all the others the same ones. */
 static void words(void)
 {
     const char *unknown = hansobrik_refusal_words(255);
     for (unsigned number = 0; number <= 255; number++) {
         const char *said = hansobrik_refusal_words((uint8_t)number);
         expect(said[0] != '\0', "a refusal has words", number);
-        expect((strcmp(said, unknown) == 0) == (number > 13), "0 and the thirteen refusals have words, no other has", number);
-        for (unsigned other = 0; other < number && number <= 13; other++)
+        expect((strcmp(said, unknown) == 0) == (number > 14), "0 and the fourteen refusals have words, no other has", number);
+        for (unsigned other = 0; other < number && number <= 14; other++)
             expect(strcmp(said, hansobrik_refusal_words((uint8_t)other)) != 0, "two refusals have other words", number);
     }
 }
@@ -140,25 +140,31 @@ static void block_sizes(uint8_t f)
                                    HANSOBRIK_CALIBRATION_1_BYTES, HANSOBRIK_CALIBRATION_2_BYTES};
     static uint8_t block[HANSOBRIK_CALIBRATION_2_BYTES];
     const size_t all = sizeof line;
-    const uint32_t none = hansobrik_no_marks(), marks = HANSOBRIK_ALL_MARKS;
+    const hansobrik_assembly none = hansobrik_fresh_assembly();
+    hansobrik_assembly done = none;
+    done.marks = HANSOBRIK_ALL_MARKS;
     uint8_t last = f == HANSOBRIK_S_VISSR ? HANSOBRIK_CALIBRATION_2 : HANSOBRIK_CALIBRATION_1;
     for (uint8_t b = HANSOBRIK_MAPPING; b <= last; b++) {
         size_t n = sizes[b - 1];
         needs(hansobrik_add_segment(f, none, line, all, b, block, n).refused,
               hansobrik_add_segment(f, none, line, all, b, block, n - 1).refused, IN, "add_segment", b);
     }
+    for (uint8_t b = HANSOBRIK_MANAM; b <= last; b++) {
+        size_t n = sizes[b - 1];
+        needs(hansobrik_revision(f, done, b, block, n).refused, hansobrik_revision(f, done, b, block, n - 1).refused, IN,
+              "revision", b);
+    }
     size_t n = HANSOBRIK_MAPPING_BYTES;
-    needs(hansobrik_mapping(f, marks, block, n, 24, 24).refused, hansobrik_mapping(f, marks, block, n - 1, 24, 24).refused, IN,
+    needs(hansobrik_mapping(f, done, block, n, 24, 24).refused, hansobrik_mapping(f, done, block, n - 1, 24, 24).refused, IN,
           "mapping", f);
     n = HANSOBRIK_ORBIT_BYTES;
-    needs(hansobrik_elements(f, marks, block, n).refused, hansobrik_elements(f, marks, block, n - 1).refused, IN, "elements",
-          f);
+    needs(hansobrik_elements(f, done, block, n).refused, hansobrik_elements(f, done, block, n - 1).refused, IN, "elements", f);
     if (f == HANSOBRIK_S_VISSR) {
         n = HANSOBRIK_CALIBRATION_2_BYTES;
-        needs(hansobrik_albedo(f, marks, block, n, 4, 63).refused, hansobrik_albedo(f, marks, block, n - 1, 4, 63).refused, IN,
+        needs(hansobrik_albedo(f, done, block, n, 4, 63).refused, hansobrik_albedo(f, done, block, n - 1, 4, 63).refused, IN,
               "albedo", 4);
-        needs(hansobrik_temperature(f, marks, block, n, 4, 1023).refused,
-              hansobrik_temperature(f, marks, block, n - 1, 4, 1023).refused, IN, "temperature", 4);
+        needs(hansobrik_temperature(f, done, block, n, 4, 1023).refused,
+              hansobrik_temperature(f, done, block, n - 1, 4, 1023).refused, IN, "temperature", 4);
     }
 }
 

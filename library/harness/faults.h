@@ -11,6 +11,9 @@
 
 #define BYTES const uint8_t *p, size_t c
 #define READING uint8_t f, uint8_t k, hansobrik_state s, BYTES, uint8_t *o, size_t d
+#define ADDING uint8_t f, hansobrik_assembly k, BYTES, uint8_t n, uint8_t *o, size_t d
+#define TABLES hansobrik_assembly k, hansobrik_assembly l, uint8_t n
+#define LEVEL uint8_t f, hansobrik_assembly k, BYTES, uint8_t x, uint16_t y
 
 /* For wrong fillers, what a count by words is made of: the bits up to a byte edge, words of eight bytes, the rest. */
 static inline size_t filler_end(uint8_t s)
@@ -118,9 +121,68 @@ static inline hansobrik_read_answer by_rule(rule counts, READING)
     return a;
 }
 
-#if FAULT == 0 /* none, with the search made here: by the right rule it is the library's */
-static hansobrik_read_answer right(READING) { return by_rule(near_tail, f, k, s, p, c, o, d); }
-#define hansobrik_read right
+/* For wrong assemblies: a record, with the numbers of a line's tables where the line is whole. */
+static inline hansobrik_assembly of_line(hansobrik_assembly k, BYTES)
+{
+    if (c >= HANSOBRIK_LINE_BYTES) {
+        k.calibration = (uint16_t)(p[27] << 8 | p[28]);
+        k.manam = (uint16_t)(p[29] << 8 | p[30]);
+    }
+    return k;
+}
+static inline bool has_numbers(hansobrik_assembly k) { return k.calibration != 0 || k.manam != 0; }
+static inline hansobrik_assembly with_numbers(hansobrik_assembly k, hansobrik_assembly of)
+{
+    k.calibration = of.calibration;
+    k.manam = of.manam;
+    return k;
+}
+
+/* What add_segment would answer, were the line of the assembly's own revision. Nothing is stored. */
+static inline hansobrik_add_answer otherwise(ADDING)
+{
+    static uint8_t copy[1 << 16];
+    size_t room = d < sizeof copy ? d : sizeof copy;
+    if (room > 0)
+        memcpy(copy, o, room);
+    return hansobrik_add_segment(f, of_line(k, p, c), p, c, n, copy, room);
+}
+static inline hansobrik_add_answer refused(uint8_t number, hansobrik_assembly k)
+{
+    hansobrik_add_answer a;
+    memset(&a, 0, sizeof a);
+    a.refused = number;
+    a.assembly = k;
+    return a;
+}
+
+/* Whether a line is of another revision, by the record k, the record l that the line alone would make, and the number n of the
+ * block: a part of the right rule, and the right rule. */
+typedef bool foreign(TABLES);
+static inline bool other_number(TABLES) { return n == 3 ? k.manam != l.manam : n > 3 && k.calibration != l.calibration; }
+static inline bool other_tables(TABLES) { return k.marks != 0 && other_number(k, l, n); }
+
+/* add_segment with another rule: what is foreign is tested here, the rest is the library's. */
+static inline hansobrik_add_answer by_tables(foreign is, ADDING)
+{
+    hansobrik_add_answer a = otherwise(f, k, p, c, n, o, d);
+    if (a.refused == 0 || a.refused == 8) {
+        hansobrik_assembly l = of_line(k, p, c);
+        l.marks = (uint32_t)1 << p[193];
+        if (is(k, l, n))
+            return refused(14, k);
+    }
+    a = hansobrik_add_segment(f, of_line(k, p, c), p, c, n, o, d);
+    if (a.refused || k.marks != 0)
+        a.assembly = with_numbers(a.assembly, k);
+    return a;
+}
+
+#if FAULT == 0 /* none, with the search and the test of the tables made here: by the right rules they are the library's */
+static hansobrik_read_answer right_read(READING) { return by_rule(near_tail, f, k, s, p, c, o, d); }
+#define hansobrik_read right_read
+static hansobrik_add_answer right_add(ADDING) { return by_tables(other_tables, f, k, p, c, n, o, d); }
+#define hansobrik_add_segment right_add
 #elif FAULT == 1 /* 2,048 set filler bits are counted as one less */
 static hansobrik_count_answer wrong(uint8_t f, BYTES, uint8_t s)
 {
@@ -157,11 +219,11 @@ static hansobrik_count_answer wrong(uint8_t f, uint8_t *o, size_t d)
 }
 #define hansobrik_put_sync wrong
 #elif FAULT == 5 /* a refused assembly forgets its marks */
-static hansobrik_add_answer wrong(uint8_t f, uint32_t k, BYTES, uint8_t n, uint8_t *o, size_t d)
+static hansobrik_add_answer wrong(ADDING)
 {
     hansobrik_add_answer a = hansobrik_add_segment(f, k, p, c, n, o, d);
     if (a.refused)
-        a.marks = 0;
+        a.assembly.marks = 0;
     return a;
 }
 #define hansobrik_add_segment wrong
@@ -175,10 +237,10 @@ static hansobrik_read_answer wrong(READING)
 }
 #define hansobrik_read wrong
 #elif FAULT == 7 /* 9 tested before 2 */
-static hansobrik_grid_answer wrong(uint8_t f, uint32_t k, BYTES, uint16_t x, uint16_t y)
+static hansobrik_grid_answer wrong(uint8_t f, hansobrik_assembly k, BYTES, uint16_t x, uint16_t y)
 {
     hansobrik_grid_answer a = hansobrik_mapping(f, k, p, c, x, y);
-    if (a.refused == 2 && k != HANSOBRIK_ALL_MARKS)
+    if (a.refused == 2 && k.marks != HANSOBRIK_ALL_MARKS)
         a.refused = 9;
     return a;
 }
@@ -276,7 +338,7 @@ static hansobrik_date_answer wrong(uint8_t f, BYTES)
 }
 #define hansobrik_date wrong
 #elif FAULT == 18 /* one rounding too many */
-static hansobrik_orbit_answer wrong(uint8_t f, uint32_t k, BYTES)
+static hansobrik_orbit_answer wrong(uint8_t f, hansobrik_assembly k, BYTES)
 {
     hansobrik_orbit_answer a = hansobrik_elements(f, k, p, c);
     a.eccentricity = a.eccentricity * 10 / 10;
@@ -426,4 +488,220 @@ static hansobrik_read_answer wrong(READING)
     return a;
 }
 #define hansobrik_read wrong
+#elif FAULT == 38 /* the calibration blocks go by bytes 30-31 */
+static bool by_manam(TABLES) { return k.marks != 0 && n >= 3 && k.manam != l.manam; }
+static hansobrik_add_answer wrong(ADDING) { return by_tables(by_manam, f, k, p, c, n, o, d); }
+#define hansobrik_add_segment wrong
+#elif FAULT == 39 /* a later copy of another revision is let through */
+static bool unmarked(TABLES) { return other_tables(k, l, n) && !(k.marks & l.marks); }
+static hansobrik_add_answer wrong(ADDING) { return by_tables(unmarked, f, k, p, c, n, o, d); }
+#define hansobrik_add_segment wrong
+#elif FAULT == 40 /* without a mark, numbers that are not 0 are compared with */
+static bool left_over(TABLES) { return (k.marks != 0 || has_numbers(k)) && other_number(k, l, n); }
+static hansobrik_add_answer wrong(ADDING) { return by_tables(left_over, f, k, p, c, n, o, d); }
+#define hansobrik_add_segment wrong
+#elif FAULT == 41 /* mapping goes by the MANAM revision */
+static bool mapping_too(TABLES) { return k.marks != 0 && other_number(k, l, n == 1 ? 3 : n); }
+static hansobrik_add_answer wrong(ADDING) { return by_tables(mapping_too, f, k, p, c, n, o, d); }
+#define hansobrik_add_segment wrong
+#elif FAULT == 42 /* orbit goes by the calibration table ID */
+static bool orbit_too(TABLES) { return k.marks != 0 && other_number(k, l, n == 2 ? 4 : n); }
+static hansobrik_add_answer wrong(ADDING) { return by_tables(orbit_too, f, k, p, c, n, o, d); }
+#define hansobrik_add_segment wrong
+#elif FAULT == 43 /* calibration-1 goes by no number */
+static bool one_less(TABLES) { return n != 4 && other_tables(k, l, n); }
+static hansobrik_add_answer wrong(ADDING) { return by_tables(one_less, f, k, p, c, n, o, d); }
+#define hansobrik_add_segment wrong
+#elif FAULT == 44 /* either number is tested for all three blocks */
+static bool either(TABLES) { return n >= 3 && (other_tables(k, l, 3) || other_tables(k, l, 4)); }
+static hansobrik_add_answer wrong(ADDING) { return by_tables(either, f, k, p, c, n, o, d); }
+#define hansobrik_add_segment wrong
+#elif FAULT == 45 /* the low bytes alone are compared */
+static bool low(TABLES)
+{
+    l.calibration = (uint16_t)(k.calibration & 0xFF00) | (l.calibration & 0xFF);
+    l.manam = (uint16_t)(k.manam & 0xFF00) | (l.manam & 0xFF);
+    return other_tables(k, l, n);
+}
+static hansobrik_add_answer wrong(ADDING) { return by_tables(low, f, k, p, c, n, o, d); }
+#define hansobrik_add_segment wrong
+#elif FAULT == 46 /* the high bytes alone are compared */
+static bool high(TABLES)
+{
+    l.calibration = (uint16_t)(k.calibration & 0xFF) | (l.calibration & 0xFF00);
+    l.manam = (uint16_t)(k.manam & 0xFF) | (l.manam & 0xFF00);
+    return other_tables(k, l, n);
+}
+static hansobrik_add_answer wrong(ADDING) { return by_tables(high, f, k, p, c, n, o, d); }
+#define hansobrik_add_segment wrong
+#elif FAULT == 47 /* another revision is seen only once the block is finished */
+static bool late(TABLES) { return k.marks == HANSOBRIK_ALL_MARKS && other_number(k, l, n); }
+static hansobrik_add_answer wrong(ADDING) { return by_tables(late, f, k, p, c, n, o, d); }
+#define hansobrik_add_segment wrong
+#elif FAULT == 48 /* 8 tested before 14 */
+static hansobrik_add_answer wrong(ADDING)
+{
+    hansobrik_add_answer a = hansobrik_add_segment(f, k, p, c, n, o, d);
+    if (a.refused == 14 && otherwise(f, k, p, c, n, o, d).refused == 8)
+        a.refused = 8;
+    return a;
+}
+#define hansobrik_add_segment wrong
+#elif FAULT == 49 /* 14 tested before 7 */
+static hansobrik_add_answer wrong(ADDING)
+{
+    hansobrik_add_answer a = hansobrik_add_segment(f, k, p, c, n, o, d);
+    if (a.refused == 7 && k.marks != 0 && other_number(k, of_line(k, p, c), n))
+        a.refused = 14;
+    return a;
+}
+#define hansobrik_add_segment wrong
+#elif FAULT == 50 /* the numbers of the latest segment are kept, not those of the first */
+static hansobrik_add_answer wrong(ADDING)
+{
+    hansobrik_add_answer a = hansobrik_add_segment(f, k, p, c, n, o, d);
+    if (!a.refused)
+        a.assembly = of_line(a.assembly, p, c);
+    return a;
+}
+#define hansobrik_add_segment wrong
+#elif FAULT == 51 /* a line of another revision leaves its numbers in the record */
+static hansobrik_add_answer wrong(ADDING)
+{
+    hansobrik_add_answer a = hansobrik_add_segment(f, k, p, c, n, o, d);
+    if (a.refused == 14)
+        a.assembly = of_line(a.assembly, p, c);
+    return a;
+}
+#define hansobrik_add_segment wrong
+#elif FAULT == 52 /* mapping and orbit keep no numbers */
+static hansobrik_add_answer wrong(ADDING)
+{
+    hansobrik_add_answer a = hansobrik_add_segment(f, k, p, c, n, o, d);
+    if (!a.refused && n <= 2)
+        a.assembly = with_numbers(a.assembly, k);
+    return a;
+}
+#define hansobrik_add_segment wrong
+#elif FAULT == 53 /* the first segment leaves numbers that are not 0 */
+static hansobrik_add_answer wrong(ADDING)
+{
+    hansobrik_add_answer a = hansobrik_add_segment(f, k, p, c, n, o, d);
+    if (!a.refused && k.marks == 0 && has_numbers(k))
+        a.assembly = with_numbers(a.assembly, k);
+    return a;
+}
+#define hansobrik_add_segment wrong
+#elif FAULT == 54 /* the first segment's numbers are taken low byte first */
+static hansobrik_add_answer wrong(ADDING)
+{
+    hansobrik_add_answer a = hansobrik_add_segment(f, k, p, c, n, o, d);
+    if (!a.refused && k.marks == 0) {
+        a.assembly.calibration = (uint16_t)(a.assembly.calibration << 8 | a.assembly.calibration >> 8);
+        a.assembly.manam = (uint16_t)(a.assembly.manam << 8 | a.assembly.manam >> 8);
+    }
+    return a;
+}
+#define hansobrik_add_segment wrong
+#elif FAULT == 55 /* numbers without a mark are an impossible record */
+static hansobrik_add_answer wrong(ADDING)
+{
+    if ((f == 1 || f == 2) && k.marks == 0 && has_numbers(k))
+        return refused(12, k);
+    return hansobrik_add_segment(f, k, p, c, n, o, d);
+}
+#define hansobrik_add_segment wrong
+#elif FAULT == 56 /* the revision of an unfinished block is given */
+static hansobrik_revision_answer wrong(uint8_t f, hansobrik_assembly k, uint8_t n, BYTES)
+{
+    hansobrik_revision_answer a = hansobrik_revision(f, k, n, p, c);
+    if (a.refused == 9) {
+        a.refused = 0;
+        a.revision = n == 3 ? k.manam : k.calibration;
+    }
+    return a;
+}
+#define hansobrik_revision wrong
+#elif FAULT == 57 /* the revision of a calibration block is that of MANAM */
+static hansobrik_revision_answer wrong(uint8_t f, hansobrik_assembly k, uint8_t n, BYTES)
+{
+    hansobrik_revision_answer a = hansobrik_revision(f, k, n, p, c);
+    if (!a.refused)
+        a.revision = k.manam;
+    return a;
+}
+#define hansobrik_revision wrong
+#elif FAULT == 58 /* a finished orbit block has a revision */
+static hansobrik_revision_answer wrong(uint8_t f, hansobrik_assembly k, uint8_t n, BYTES)
+{
+    hansobrik_revision_answer a = hansobrik_revision(f, k, n, p, c);
+    if (a.refused == 4 && n == 2 && k.marks == HANSOBRIK_ALL_MARKS && c >= HANSOBRIK_ORBIT_BYTES)
+        a.refused = 0;
+    return a;
+}
+#define hansobrik_revision wrong
+#elif FAULT == 59 /* a buffer that is short by one byte is long enough */
+static hansobrik_revision_answer wrong(uint8_t f, hansobrik_assembly k, uint8_t n, BYTES)
+{
+    hansobrik_revision_answer a = hansobrik_revision(f, k, n, p, c);
+    if (a.refused == 2 && n == 3 && c + 1 == HANSOBRIK_MANAM_BYTES && k.marks == HANSOBRIK_ALL_MARKS) {
+        a.refused = 0;
+        a.revision = k.manam;
+    }
+    return a;
+}
+#define hansobrik_revision wrong
+#elif FAULT == 60 /* a level is of revision 0 */
+static hansobrik_level_answer wrong(LEVEL)
+{
+    hansobrik_level_answer a = hansobrik_temperature(f, k, p, c, x, y);
+    a.revision = 0;
+    return a;
+}
+#define hansobrik_temperature wrong
+#elif FAULT == 61 /* a level is of the MANAM revision */
+static hansobrik_level_float_answer wrong(LEVEL)
+{
+    hansobrik_level_float_answer a = hansobrik_albedo_f64(f, k, p, c, x, y);
+    if (!a.refused)
+        a.revision = k.manam;
+    return a;
+}
+#define hansobrik_albedo_f64 wrong
+#elif FAULT == 62 /* a level's revision is cut to a byte */
+static hansobrik_level_float_answer wrong(LEVEL)
+{
+    hansobrik_level_float_answer a = hansobrik_temperature_f64(f, k, p, c, x, y);
+    a.revision &= 255;
+    return a;
+}
+#define hansobrik_temperature_f64 wrong
+#elif FAULT == 63 /* a level of an unfinished block is refused, but has a revision */
+static hansobrik_level_answer wrong(LEVEL)
+{
+    hansobrik_level_answer a = hansobrik_albedo(f, k, p, c, x, y);
+    if (a.refused == 9)
+        a.revision = k.calibration;
+    return a;
+}
+#define hansobrik_albedo wrong
+#elif FAULT == 64 /* mapping refuses a record with numbers */
+static hansobrik_grid_answer wrong(uint8_t f, hansobrik_assembly k, BYTES, uint16_t x, uint16_t y)
+{
+    hansobrik_grid_answer a = hansobrik_mapping(f, k, p, c, x, y);
+    if (!a.refused && has_numbers(k)) {
+        memset(&a, 0, sizeof a);
+        a.refused = 12;
+    }
+    return a;
+}
+#define hansobrik_mapping wrong
+#elif FAULT == 65 /* an assembly that is not fresh */
+static hansobrik_assembly wrong(void)
+{
+    hansobrik_assembly a = hansobrik_fresh_assembly();
+    a.manam = 1;
+    return a;
+}
+#define hansobrik_fresh_assembly wrong
 #endif

@@ -1,12 +1,13 @@
 /* The eight calls of hansobrik.h whose answers or records cross otherwise on this processor than on x86-64, for which the
  * library's modules are lowered. `far_` are the modules' own functions under another name; the other calls are the same on both
- * and need nothing here. */
+ * and need nothing here: an assembly's record, of eight bytes, goes as one word on both. */
 #include "hansobrik.h"
 
 /* an answer of more than sixteen bytes: on x86-64 its address is the first argument */
 void *far_format(hansobrik_format_answer *out, uint8_t format);
 void *far_fresh(hansobrik_state *out);
-void *far_elements(hansobrik_orbit_answer *out, uint8_t format, uint32_t marks, const uint8_t *block, size_t block_count);
+void *far_elements(hansobrik_orbit_answer *out, uint8_t format, hansobrik_assembly assembly, const uint8_t *block,
+                   size_t block_count);
 
 /* near.ll */
 void near_read(hansobrik_read_answer *out, uint8_t format, uint8_t setting, const hansobrik_state *state, const uint8_t *piece,
@@ -14,9 +15,9 @@ void near_read(hansobrik_read_answer *out, uint8_t format, uint8_t setting, cons
 void near_read_f64(hansobrik_float_answer *out, const uint8_t *bytes, size_t bytes_count, size_t n, uint8_t m);
 void near_f64_field(hansobrik_float_answer *out, uint8_t format, const uint8_t *line, size_t line_count, size_t place,
                     size_t n, uint8_t m);
-void near_albedo_f64(hansobrik_float_answer *out, uint8_t format, uint32_t marks, const uint8_t *block, size_t block_count,
-                     uint8_t channel, uint16_t level);
-void near_temperature_f64(hansobrik_float_answer *out, uint8_t format, uint32_t marks, const uint8_t *block,
+void near_albedo_f64(hansobrik_level_float_answer *out, uint8_t format, hansobrik_assembly assembly, const uint8_t *block,
+                     size_t block_count, uint8_t channel, uint16_t level);
+void near_temperature_f64(hansobrik_level_float_answer *out, uint8_t format, hansobrik_assembly assembly, const uint8_t *block,
                           size_t block_count, uint8_t channel, uint16_t level);
 
 hansobrik_format_answer hansobrik_format(uint8_t format) {
@@ -31,9 +32,10 @@ hansobrik_state hansobrik_fresh(void) {
     return out;
 }
 
-hansobrik_orbit_answer hansobrik_elements(uint8_t format, uint32_t marks, const uint8_t *block, size_t block_count) {
+hansobrik_orbit_answer hansobrik_elements(uint8_t format, hansobrik_assembly assembly, const uint8_t *block,
+                                          size_t block_count) {
     hansobrik_orbit_answer out;
-    far_elements(&out, format, marks, block, block_count);
+    far_elements(&out, format, assembly, block, block_count);
     return out;
 }
 
@@ -57,16 +59,16 @@ hansobrik_float_answer hansobrik_f64_field(uint8_t format, const uint8_t *line, 
     return out;
 }
 
-hansobrik_float_answer hansobrik_albedo_f64(uint8_t format, uint32_t marks, const uint8_t *block, size_t block_count,
-                                            uint8_t channel, uint16_t level) {
-    hansobrik_float_answer out;
-    near_albedo_f64(&out, format, marks, block, block_count, channel, level);
+hansobrik_level_float_answer hansobrik_albedo_f64(uint8_t format, hansobrik_assembly assembly, const uint8_t *block,
+                                                  size_t block_count, uint8_t channel, uint16_t level) {
+    hansobrik_level_float_answer out;
+    near_albedo_f64(&out, format, assembly, block, block_count, channel, level);
     return out;
 }
 
-hansobrik_float_answer hansobrik_temperature_f64(uint8_t format, uint32_t marks, const uint8_t *block, size_t block_count,
-                                                 uint8_t channel, uint16_t level) {
-    hansobrik_float_answer out;
-    near_temperature_f64(&out, format, marks, block, block_count, channel, level);
+hansobrik_level_float_answer hansobrik_temperature_f64(uint8_t format, hansobrik_assembly assembly, const uint8_t *block,
+                                                       size_t block_count, uint8_t channel, uint16_t level) {
+    hansobrik_level_float_answer out;
+    near_temperature_f64(&out, format, assembly, block, block_count, channel, level);
     return out;
 }

@@ -1,6 +1,8 @@
 pub mod Marking
-pub mod Later
 pub mod Stored
 pub mod Advance
+pub mod Later
 pub mod Run
 pub mod Skips
+pub mod Revised
+pub mod AsBefore

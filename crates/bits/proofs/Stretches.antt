@@ -2,7 +2,7 @@
 -- is replaced, read, or put behind another. Assumes nothing.
 use mathlib.Core.Path.{_≡_, sym, ap, ap₂, _∙_}
 use mathlib.Core.List.{List, _++_, append-assoc}
-use Prim.Native.Nat.{ℕ, _+_, _≤_, _<_}
+use Prim.Native.Nat.{ℕ, _+_, _-_, _≤_, _<_}
 use native.Mathlib.Omega.{arith}
 use lib.ListN.{length, getD, take, drop, length-drop, take-append-drop}
 use lib.Seq.{getD-take, getD-drop, take-add, take-at, drop-at, drop-drop, length-take-le}
@@ -15,6 +15,11 @@ stretch-length l at n h = length-take-le n (drop at l) (rw length-drop (omega ar
 pub stretch-at : (l : List ℕ) (at n i : ℕ) → i < n → getD l (at + i) 0 ≡ getD (stretch l at n) i 0
 unfolding stretch
 stretch-at l at n i h = sym (getD-take n (drop at l) i 0 h ∙ getD-drop at l i 0)
+
+-- what the code lends as `&l[at..at + n]`
+pub stretch-lent : (l : List ℕ) (at n : ℕ) → take (at + n - at) (drop at l) ≡ stretch l at n
+unfolding stretch
+stretch-lent l at n = let e : at + n - at ≡ n = omega arith in ap (λ (k : ℕ). take k (drop at l)) e
 
 -- one behind the other
 pub stretch-append : (l : List ℕ) (at m n : ℕ) → stretch l at (m + n) ≡ stretch l at m ++ stretch l (at + m) n

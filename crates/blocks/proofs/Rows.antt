@@ -4,9 +4,12 @@ use mathlib.Core.List.{List, [], _∷_}
 use Prim.Native.Nat.{ℕ, zero, suc, _+_, _*_, _-_, _≤_}
 use native.Mathlib.Omega.{arith}
 use lib.Dec.{lit≤}
+use borrow.Author.Tests.{ne-eqb}
 use Rattle.formats.specs.Formats.{lineBytes}
 use Rattle.bits.proofs.Writes.{room}
 use Rattle.blocks.specs.declared.block.Block.{Block}
+use Rattle.blocks.specs.declared.assembly.Revisions.{Revisions}
+use Rattle.blocks.specs.Record.{revisionOf}
 use Rattle.blocks.specs.Blocks.{none, blocks, blockOf, segmentBytes, Sound}
 
 -- a number that is none of 1 to 5 has no row
@@ -46,3 +49,8 @@ in-block b s len h small fits = omega (arith, room s 25 (segmentBytes b) (omega 
 
 pub in-line : (b : Block) (len : ℕ) → Sound b → lineBytes ≤ len → b .first - 1 + segmentBytes b ≤ len
 in-line b len h long = omega (arith, h .starts, h .ends)
+
+-- a block that is none of 3 to 5 goes by no revision
+pub no-revision : (n : ℕ) (r : Revisions) → (n ≡ 3 → ⊥) → (n ≡ 4 → ⊥) → (n ≡ 5 → ⊥) → 0 ≡ revisionOf n r
+unfolding revisionOf
+no-revision n r a b c = rw (ne-eqb n 3 a, ne-eqb n 4 b, ne-eqb n 5 c)

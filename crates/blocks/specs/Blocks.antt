@@ -36,6 +36,12 @@ mapping = 1
 abbrev pub orbit : ℕ
 orbit = 2
 
+abbrev pub manam : ℕ
+manam = 3
+
+abbrev pub calibration1 : ℕ
+calibration1 = 4
+
 abbrev pub calibration2 : ℕ
 calibration2 = 5
 

@@ -1,6 +1,6 @@
 // Which segments of a block have come.
 ghost use mathlib.Core.Path.{_≡_};
-ghost use Rattle.blocks.specs.Marking.{noMarks, marked, withMark, marksRefusal, unfinishedRefusal};
+ghost use Rattle.blocks.specs.Marking.{marked, withMark, marksRefusal, unfinishedRefusal};
 ghost use Prim.Native.Nat.{_≤_};
 
 // The marks of an assembly: bit s is set once segment s is stored. A record with a mark above 24 is impossible.
@@ -10,13 +10,6 @@ pub struct Marks {
 
 // The marks of a finished block: all 25 segments.
 pub const ALL: u32 = 0x1FF_FFFF;
-
-// The marks of an assembly that has no segment yet.
-pub fn no_marks() -> Marks
-    ensures { λ r. ⌜ r ≡ noMarks ⌝ }
-{
-    Marks { segments: 0 }
-}
 
 // Inner. 12 where there is a mark above 24; else 0.
 pub fn marks_refusal(marks: Marks) -> u8

@@ -14,3 +14,4 @@ pub mod Guarded
 pub mod Iced
 pub mod Nine
 pub mod Thirteen
+pub mod Fourteen

@@ -45,10 +45,12 @@ use Rattle.document_fields.specs.Fields.{noPlace, fieldRefusal, integerFieldRef
 use Rattle.blocks.specs.declared.marks.Marks.{Marks}
 use Rattle.blocks.specs.Blocks.{blockOf, blockRefusal}
 use Rattle.blocks.specs.Marking.{marksRefusal, unfinishedRefusal}
-use Rattle.segments.specs.Assembly.{copyRefusal, lentRefusal, carriedRefusal, addSegmentRefusal}
+use Rattle.blocks.specs.declared.assembly.Assembly.{Assembly}
+use Rattle.revisions.specs.Carried.{revisionsIn, foreign, foreignRefusal}
+use Rattle.segments.specs.Assembly.{differs, copyRefusal, placeRefusal, lentRefusal, carriedRefusal, addSegmentRefusal}
 use Rattle.entries.specs.Entries.{entryRefusal, gridRefusal}
 use Rattle.calibration.specs.Tables.{levelRefusal}
-use Rattle.demands.specs.Orders.{Orders, badPart, someOver, docTests, fieldTests, countTests, dateTests, segmentTest}
+use Rattle.demands.specs.Orders.{Orders, badPart, someOver, docTests, fieldTests, countTests, dateTests, segmentTest, carriedTests, copyTest}
 
 -- ---- tests that are made in more than one place
 
@@ -124,22 +126,26 @@ lent-doc f m line n given e =
     ∙ first-none (formatRefusal f) _ (none-first (formatRefusal f) (marksRefusal m) asked)
     ∙ first-none (shortOf (length line) lineBytes 2) _ (none-first (shortOf (length line) lineBytes 2) _ lengths)
 
-added-when : (f : ℕ) (m : Marks) (line : List ℕ) (n : ℕ) (block : List ℕ)
-    → addSegmentRefusal f m line n block
-    ≡ first (lentRefusal f m n (length line) (length block))
-    (first (first (answerOf (checkStart f) (layoutOf 1) (bitsOf line)) (segmentRefusal (docByte line 193) (docByte line 194) (docByte line 195) (docByte line 196)))
-    (copyRefusal (blockOf n) m line (docByte line 194) block))
-unfolding addSegmentRefusal carriedRefusal subCommutationRefusal
-added-when f m line n block =
-    let lent : ℕ = lentRefusal f m n (length line) (length block) in
+pub carried-when : (f : ℕ) (m : Marks) (line : List ℕ) (n given : ℕ) → carriedRefusal f m line n given ≡ firstOf (carriedTests f m line n given)
+unfolding firstOf shortOf outsideOf carriedRefusal subCommutationRefusal answerOf segmentRefusal lentRefusal marksRefusal blockRefusal
+carried-when f m line n given =
+    let lent : ℕ = lentRefusal f m n (length line) given in
     let segment : ℕ = segmentRefusal (docByte line 193) (docByte line 194) (docByte line 195) (docByte line 196) in
-    let copy : ℕ = copyRefusal (blockOf n) m line (docByte line 194) block in
-    first-assoc lent (first (docRefusal f line) segment) copy ∙ first-as lent _ _ (λ z. ap (λ (k : ℕ). first (first k segment) copy) (lent-doc f m line n (length block) z))
+    first-as lent (first (docRefusal f line) segment) (first (answerOf (checkStart f) (layoutOf 1) (bitsOf line)) segment) (λ z. ap (λ (k : ℕ). first k segment) (lent-doc f m line n given z))
+    ∙ simp (refused-when, first-assoc, first-zero) refl
+
+-- and then 14 and 8
+added-when : (f : ℕ) (a : Assembly) (line : List ℕ) (n : ℕ) (block : List ℕ)
+    → addSegmentRefusal f a line n block ≡ firstOf (carriedTests f (a .marks) line n (length block) ++ ((14, foreign n a (revisionsIn line)) ∷ copyTest n (a .marks) line block ∷ []))
+unfolding addSegmentRefusal placeRefusal foreignRefusal copyRefusal differs
+added-when f a line n block =
+    chain-then _ _ (carriedTests f (a .marks) line n (length block)) ((14, foreign n a (revisionsIn line)) ∷ copyTest n (a .marks) line block ∷ []) (carried-when f (a .marks) line n (length block))
+    (unfold firstOf in ap (first (when (foreign n a (revisionsIn line)) 14)) (sym (first-zero _)))
 
 -- ---- the list
 
 pub orders : Orders
-unfolding firstOf shortOf outsideOf stepRefusal putSyncRefusal fillerRefusal integerFieldRefusal bcdFieldRefusal realFieldRefusal readRefusal writeLineRefusal acceptedAnswer lineRefusal askedOf answerOf answersRefusal valuesRefusal dataAnswer pixelsAnswer joinedAnswer stripRefusal inputShort putDataAnswer readIntegerRefusal readBcdRefusal readRealRefusal formRefusal putRealRefusal putPixelsAnswer lineNumbersRefusal dateRefusal docPart subCommutationRefusal segmentRefusal lentRefusal marksRefusal blockRefusal unfinishedRefusal entryRefusal gridRefusal levelRefusal copyRefusal
+unfolding firstOf shortOf outsideOf stepRefusal putSyncRefusal fillerRefusal integerFieldRefusal bcdFieldRefusal realFieldRefusal readRefusal writeLineRefusal acceptedAnswer lineRefusal askedOf answerOf answersRefusal valuesRefusal dataAnswer pixelsAnswer joinedAnswer stripRefusal inputShort putDataAnswer readIntegerRefusal readBcdRefusal readRealRefusal formRefusal putRealRefusal putPixelsAnswer lineNumbersRefusal dateRefusal docPart subCommutationRefusal segmentRefusal marksRefusal blockRefusal unfinishedRefusal entryRefusal gridRefusal levelRefusal
 orders = record {
   format-of = λ f. record { by-table = refl; given = simp (refused-when, first-zero) refl };
   step = λ register. record { by-table = refl; given = sym (first-zero _) };
@@ -170,7 +176,8 @@ orders = record {
         given = chain-then _ _ (fieldTests (outside 1 6 n) f line p n) ((7, someOver9 (digitsIn n (docFrom line p))) ∷ []) (field-when (outside 1 6 n) f line p n) (sym (first-zero _));
       };
   real-field = λ f line p n m. record { by-table = refl; given = field-when (noReal n m) f line p n };
-  add-segment = λ f m line n block. record { by-table = refl; given = added-when f m line n block ∙ simp (refused-when, first-assoc, first-zero) refl };
+  add-segment = λ f a line n block. record { by-table = refl; given = added-when f a line n block };
+  revision = λ f a n given. record { by-table = refl; given = simp (refused-when, first-assoc, first-zero) refl };
   mapping-of = λ f m i j given. record { by-table = refl; given = simp (refused-when, first-assoc, first-zero) refl };
   level = λ t f m c level given. record { by-table = refl; given = simp (refused-when, first-assoc, first-zero) refl };
   elements = λ f m given. record { by-table = refl; given = simp (refused-when, first-assoc, first-zero) refl };

@@ -15,11 +15,11 @@ use Rattle.visible.specs.Strip.{stripLeft}
 use Rattle.sector_writer.specs.Calls.{putDataLeft, putPixelsLeft}
 use Rattle.writer.specs.Wire.{writeLineLeft}
 use Rattle.number_writer.specs.Written.{putRealLeft}
-use Rattle.segments.specs.Assembly.{addedNumber, marksAfter}
+use Rattle.segments.specs.Assembly.{addedNumber, assemblyAfter}
 use Rattle.segments.specs.declared.Added.{Added}
 use Rattle.segments.specs.declared.Added.the-variants.{Is, Refused}
 use Rattle.segments.proofs.Settled.{add-segment-is}
-use Rattle.blocks.specs.declared.marks.Marks.{Marks}
+use Rattle.blocks.specs.declared.assembly.Assembly.{Assembly}
 use Rattle.assemblies.proofs.Skips.{block-refused}
 use Rattle.demands.specs.Contracts.{AddSegment}
 use Rattle.demands.specs.Refusals.{Refuses, Refusals}
@@ -33,12 +33,12 @@ stays n k was becomes x e left refused = left ∙ kept-some k was becomes (λ z.
 stays-bytes : (n k : ℕ) (becomes was x : List ℕ) → Below 256 was → Below 256 x → n ≡ k → bitsOf x ≡ kept k (bitsOf was) becomes → Refuses n → x ≡ was
 stays-bytes n k becomes was x hw hx e left refused = unique-bytes (bitsOf was) x was hx hw (stays n k (bitsOf was) becomes (bitsOf x) e left refused) refl
 
--- an assembly goes on with the block and the marks that it had
-assembly-stays : (f : ℕ) (m : Marks) (line : List ℕ) (number : ℕ) (block : List ℕ) (r : Added) (x : List ℕ)
-    → AddSegment f m line number block r x → Refuses (addedNumber r) → (x ≡ block) × (marksAfter m r ≡ m)
-assembly-stays f m line number block (Is p) x c refused = absurd (refused refl)
-assembly-stays f m line number block (Refused k) x c refused =
-    (c .1 ∙ block-refused f m line number block k (sym (add-segment-is f m line number block (Refused k) (c .0))), refl)
+-- an assembly goes on with the block and the record that it had
+assembly-stays : (f : ℕ) (a : Assembly) (line : List ℕ) (number : ℕ) (block : List ℕ) (r : Added) (x : List ℕ)
+    → AddSegment f a line number block r x → Refuses (addedNumber r) → (x ≡ block) × (assemblyAfter a r ≡ a)
+assembly-stays f a line number block (Is p) x c refused = absurd (refused refl)
+assembly-stays f a line number block (Refused k) x c refused =
+    (c .1 ∙ block-refused f a line number block k (sym (add-segment-is f a line number block (Refused k) (c .0))), refl)
 
 pub refusals : Refusals
 unfolding registerLeft putSyncLeft readLeft dataLeft pixelsLeft joinedLeft stripLeft putDataLeft putPixelsLeft writeLineLeft putRealLeft

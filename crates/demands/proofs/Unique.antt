@@ -23,7 +23,7 @@ use Rattle.document.proofs.Settled.{scan-mode-is, scanner-select-is, sub-commut
 use Rattle.document_stamps.proofs.Settled.{line-numbers-is, date-is}
 use Rattle.document_fields.proofs.Settled.{integer-field-is, bcd-field-is, real-field-is, f64-field-is}
 use Rattle.segments.proofs.Settled.{add-segment-is}
-use Rattle.entries.proofs.Settled.{mapping-is, elements-is}
+use Rattle.entries.proofs.Settled.{revision-is, mapping-is, elements-is}
 use Rattle.calibration.specs.Tables.{albedos, temperatures}
 use Rattle.calibration.proofs.Settled.{level-is, level-f64-is}
 use Rattle.demands.specs.Unique.{One, OneWith, OneInBytes, Unique}
@@ -92,12 +92,13 @@ unique = record {
   bcd-field = λ f line place n. settled _ _ (bcd-field-is f line place n);
   real-field = λ f line place n m. settled _ _ (real-field-is f line place n m);
   f64-field = λ f line place n m. settled _ _ (f64-field-is f line place n m);
-  no-marks = equation _;
-  add-segment = λ f m line number block. settled-with _ _ _ (add-segment-is f m line number block);
-  mapping = λ f m block row column. settled _ _ (mapping-is f m block row column);
-  elements = λ f m block. settled _ _ (elements-is f m block);
-  albedo = λ f m block channel level. settled _ _ (level-is albedos f m block channel level);
-  albedo-f64 = λ f m block channel level. settled _ _ (level-f64-is albedos f m block channel level);
-  temperature = λ f m block channel level. settled _ _ (level-is temperatures f m block channel level);
-  temperature-f64 = λ f m block channel level. settled _ _ (level-f64-is temperatures f m block channel level);
+  fresh-assembly = equation _;
+  add-segment = λ f a line number block. settled-with _ _ _ (add-segment-is f a line number block);
+  revision = λ f a number block. settled _ _ (revision-is f a number block);
+  mapping = λ f a block row column. settled _ _ (mapping-is f (a .marks) block row column);
+  elements = λ f a block. settled _ _ (elements-is f (a .marks) block);
+  albedo = λ f a block channel level. settled _ _ (level-is albedos f a block channel level);
+  albedo-f64 = λ f a block channel level. settled _ _ (level-f64-is albedos f a block channel level);
+  temperature = λ f a block channel level. settled _ _ (level-is temperatures f a block channel level);
+  temperature-f64 = λ f a block channel level. settled _ _ (level-f64-is temperatures f a block channel level);
 }

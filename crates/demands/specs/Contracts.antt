@@ -22,7 +22,7 @@ use Rattle.writer.specs.Wire.{WriteLineOk, writeLineLeft}
 use Rattle.writer.specs.declared.Written.{Written}
 use Rattle.number_writer.specs.Written.{PutRealOk, putRealLeft}
 use Rattle.number_writer.specs.declared.Put.{Put}
-use Rattle.blocks.specs.declared.marks.Marks.{Marks}
+use Rattle.blocks.specs.declared.assembly.Assembly.{Assembly}
 use Rattle.segments.specs.Assembly.{AddSegmentOk, addSegmentLeft}
 use Rattle.segments.specs.declared.Added.{Added}
 
@@ -62,5 +62,5 @@ PutPixels lo hi f line sector ps r x = (r ≡ putPixelsAnswer lo hi f (length li
 abbrev pub PutReal : Bool → ℕ → ℕ → ℕ → List ℕ → Put → List ℕ → Type 0
 PutReal negative magnitude n m out r x = PutRealOk magnitude n m (length out) r × (x ≡ putRealLeft negative magnitude n m out)
 
-abbrev pub AddSegment : ℕ → Marks → List ℕ → ℕ → List ℕ → Added → List ℕ → Type 0
-AddSegment f m line number block r x = AddSegmentOk f m line number block r × (x ≡ addSegmentLeft f m line number block)
+abbrev pub AddSegment : ℕ → Assembly → List ℕ → ℕ → List ℕ → Added → List ℕ → Type 0
+AddSegment f a line number block r x = AddSegmentOk f a line number block r × (x ≡ addSegmentLeft f a line number block)

@@ -36,10 +36,12 @@ use Rattle.document_stamps.specs.Lines.{lineNumbersRefusal}
 use Rattle.document_stamps.specs.Dates.{dateRefusal}
 use Rattle.document_fields.specs.Fields.{noPlace, integerFieldRefusal, bcdFieldRefusal, realFieldRefusal}
 use Rattle.blocks.specs.declared.marks.Marks.{Marks}
-use Rattle.blocks.specs.Blocks.{blockOf, segmentBytes, mapping, orbit, calibration2}
+use Rattle.blocks.specs.declared.assembly.Assembly.{Assembly}
+use Rattle.blocks.specs.Blocks.{blockOf, segmentBytes, mapping, orbit, manam, calibration2}
 use Rattle.blocks.specs.Marking.{marked, allMarks}
+use Rattle.revisions.specs.Carried.{revisionsIn, foreign}
 use Rattle.segments.specs.Assembly.{segmentOf, addSegmentRefusal}
-use Rattle.entries.specs.Entries.{mappingRefusal, elementsRefusal}
+use Rattle.entries.specs.Entries.{revisionRefusal, mappingRefusal, elementsRefusal}
 use Rattle.calibration.specs.declared.Levels.{Levels}
 use Rattle.calibration.specs.Tables.{levelRefusal}
 
@@ -103,6 +105,16 @@ abbrev pub segmentTest : List ℕ → Test
 segmentTest line =
     (7, not (eqb (docByte line 193) 0) || (ltb 24 (docByte line 194) || (not (eqb (docByte line 195) 0) || ltb 7 (docByte line 196))))
 
+-- a line that is to carry a segment of block n
+abbrev pub carriedTests : ℕ → Marks → List ℕ → ℕ → ℕ → List Test
+carriedTests f m line n given =
+    formatTest f ∷ marksTest m ∷ (blockTests f n ++ (lineTest line ∷ (2, ltb given (blockOf n .size)) ∷ (checkTests f (layoutOf 1) line ++ (segmentTest line ∷ []))))
+
+-- the segment is stored, and has other bytes
+abbrev pub copyTest : ℕ → Marks → List ℕ → List ℕ → Test
+copyTest n m line block =
+    (8, marked m (docByte line 194) && not (same (segmentOf (blockOf n) line) (stretch block (docByte line 194 * segmentBytes (blockOf n)) (segmentBytes (blockOf n)))))
+
 -- a pixel is over its width
 unfoldable pub someOver : ℕ → List ℕ → Bool
 someOver limit [] = false
@@ -156,17 +168,10 @@ pub record Orders : Type 0 where
       → Gives (bcdFieldRefusal f line p n) (fieldTests (outside 1 6 n) f line p n ++ ((7, someOver9 (digitsIn n (docFrom line p))) ∷ []))
   -- and in f64
   pub real-field : (f : ℕ) (line : List ℕ) (p n m : ℕ) → Gives (realFieldRefusal f line p n m) (fieldTests (noReal n m) f line p n)
-  pub add-segment : (f : ℕ) (m : Marks) (line : List ℕ) (n : ℕ) (block : List ℕ)
-      → Gives (addSegmentRefusal f m line n block)
-      (formatTest f
-      ∷ marksTest m
-      ∷ (blockTests f n
-      ++ (lineTest line
-      ∷ (2, ltb (length block) (blockOf n .size))
-      ∷ (checkTests f (layoutOf 1) line
-      ++ (segmentTest line
-      ∷ (8, marked m (docByte line 194) && not (same (segmentOf (blockOf n) line) (stretch block (docByte line 194 * segmentBytes (blockOf n)) (segmentBytes (blockOf n)))))
-      ∷ [])))))
+  pub add-segment : (f : ℕ) (a : Assembly) (line : List ℕ) (n : ℕ) (block : List ℕ)
+      → Gives (addSegmentRefusal f a line n block) (carriedTests f (a .marks) line n (length block) ++ ((14, foreign n a (revisionsIn line)) ∷ copyTest n (a .marks) line block ∷ []))
+  pub revision : (f : ℕ) (a : Assembly) (n given : ℕ)
+      → Gives (revisionRefusal f a n given) (formatTest f ∷ marksTest (a .marks) ∷ (blockTests f n ++ ((4, outside manam calibration2 n) ∷ wholeTests (a .marks) n given)))
   pub mapping-of : (f : ℕ) (m : Marks) (i j given : ℕ)
       → Gives (mappingRefusal f m i j given) (formatTest f ∷ marksTest m ∷ (blockTests f mapping ++ ((10, outside 0 24 i) ∷ (10, outside 0 24 j) ∷ wholeTests m mapping given)))
   -- albedo and temperature, and in f64

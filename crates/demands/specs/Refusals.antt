@@ -14,8 +14,8 @@ use Rattle.reader.specs.declared.Answer.{Answer}
 use Rattle.visible.specs.Strip.{strippedNumber}
 use Rattle.writer.specs.Wire.{writtenNumber}
 use Rattle.number_writer.specs.Written.{putNumber}
-use Rattle.blocks.specs.declared.marks.Marks.{Marks}
-use Rattle.segments.specs.Assembly.{addedNumber, marksAfter}
+use Rattle.blocks.specs.declared.assembly.Assembly.{Assembly}
+use Rattle.segments.specs.Assembly.{addedNumber, assemblyAfter}
 use Rattle.segments.specs.declared.Added.{Added}
 use Rattle.demands.specs.Contracts.{Step, PutSync, Read, WriteLine, Data, Pixels, Joined, Strip, PutData, PutPixels, PutReal, AddSegment}
 
@@ -55,5 +55,5 @@ pub record Refusals : Type 0 where
   pub put-data : (f : ℕ) (line : List ℕ) (sector : ℕ) (bytes : List ℕ) → KeepsBytes (PutData f line sector bytes) line
   pub put-pixels : (lo hi f : ℕ) (line : List ℕ) (sector : ℕ) (ps : List ℕ) → KeepsBytes (PutPixels lo hi f line sector ps) line
   pub put-real : (negative : Bool) (magnitude n m : ℕ) (out : List ℕ) → Keeps putNumber (PutReal negative magnitude n m out) out
-  pub add-segment : (f : ℕ) (m : Marks) (line : List ℕ) (number : ℕ) (block : List ℕ) (r : Added) (x : List ℕ)
-      → AddSegment f m line number block r x → Refuses (addedNumber r) → (x ≡ block) × (marksAfter m r ≡ m)
+  pub add-segment : (f : ℕ) (a : Assembly) (line : List ℕ) (number : ℕ) (block : List ℕ) (r : Added) (x : List ℕ)
+      → AddSegment f a line number block r x → Refuses (addedNumber r) → (x ≡ block) × (assemblyAfter a r ≡ a)

@@ -22,9 +22,9 @@ use Rattle.document.specs.Segments.{SubCommutationOk}
 use Rattle.document_stamps.specs.Lines.{LineNumbersOk}
 use Rattle.document_stamps.specs.Dates.{DateOk}
 use Rattle.document_fields.specs.Fields.{IntegerFieldOk, BcdFieldOk, RealFieldOk, F64FieldOk}
-use Rattle.blocks.specs.Marking.{noMarks}
-use Rattle.blocks.specs.declared.marks.Marks.{Marks}
-use Rattle.entries.specs.Entries.{MappingOk, ElementsOk}
+use Rattle.blocks.specs.Record.{freshAssembly}
+use Rattle.blocks.specs.declared.assembly.Assembly.{Assembly}
+use Rattle.entries.specs.Entries.{RevisionOk, MappingOk, ElementsOk}
 use Rattle.calibration.specs.Tables.{albedos, temperatures, LevelOk, LevelF64Ok}
 use Rattle.demands.specs.Contracts.{Step, PutSync, Read, WriteLine, Data, Pixels, Joined, Strip, PutData, PutPixels, PutReal, AddSegment}
 
@@ -81,11 +81,12 @@ pub record Unique : Type 0 where
   pub real-field : (f : ℕ) (line : List ℕ) (place n m : ℕ) → One (RealFieldOk f line place n m)
   pub f64-field : (f : ℕ) (line : List ℕ) (place n m : ℕ) → One (F64FieldOk f line place n m)
   -- blocks
-  pub no-marks : One (λ (r : Marks). r ≡ noMarks)
-  pub add-segment : (f : ℕ) (m : Marks) (line : List ℕ) (number : ℕ) (block : List ℕ) → OneWith (AddSegment f m line number block)
-  pub mapping : (f : ℕ) (m : Marks) (block : List ℕ) (row column : ℕ) → One (MappingOk f m block row column)
-  pub elements : (f : ℕ) (m : Marks) (block : List ℕ) → One (ElementsOk f m block)
-  pub albedo : (f : ℕ) (m : Marks) (block : List ℕ) (channel level : ℕ) → One (LevelOk albedos f m block channel level)
-  pub albedo-f64 : (f : ℕ) (m : Marks) (block : List ℕ) (channel level : ℕ) → One (LevelF64Ok albedos f m block channel level)
-  pub temperature : (f : ℕ) (m : Marks) (block : List ℕ) (channel level : ℕ) → One (LevelOk temperatures f m block channel level)
-  pub temperature-f64 : (f : ℕ) (m : Marks) (block : List ℕ) (channel level : ℕ) → One (LevelF64Ok temperatures f m block channel level)
+  pub fresh-assembly : One (λ (r : Assembly). r ≡ freshAssembly)
+  pub add-segment : (f : ℕ) (a : Assembly) (line : List ℕ) (number : ℕ) (block : List ℕ) → OneWith (AddSegment f a line number block)
+  pub revision : (f : ℕ) (a : Assembly) (number : ℕ) (block : List ℕ) → One (RevisionOk f a number block)
+  pub mapping : (f : ℕ) (a : Assembly) (block : List ℕ) (row column : ℕ) → One (MappingOk f (a .marks) block row column)
+  pub elements : (f : ℕ) (a : Assembly) (block : List ℕ) → One (ElementsOk f (a .marks) block)
+  pub albedo : (f : ℕ) (a : Assembly) (block : List ℕ) (channel level : ℕ) → One (LevelOk albedos f a block channel level)
+  pub albedo-f64 : (f : ℕ) (a : Assembly) (block : List ℕ) (channel level : ℕ) → One (LevelF64Ok albedos f a block channel level)
+  pub temperature : (f : ℕ) (a : Assembly) (block : List ℕ) (channel level : ℕ) → One (LevelOk temperatures f a block channel level)
+  pub temperature-f64 : (f : ℕ) (a : Assembly) (block : List ℕ) (channel level : ℕ) → One (LevelF64Ok temperatures f a block channel level)

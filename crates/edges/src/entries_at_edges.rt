@@ -1,12 +1,20 @@
-// The entries of the blocks at their edges: the first and last that a finished block has, and the first past them. The blocks
-// are of zeros.
+// The entries of the blocks at their edges: the first and last that a finished block has, and the first past them; the revision of
+// each block; and a segment of another revision, offered to an assembly that has it. The blocks are of zeros, and so is the line:
+// its documentation sector is accepted, and carries segment 0 under the numbers 0.
+use blocks::assembly::Assembly;
+use blocks::assembly::Revisions;
 use blocks::marks::ALL;
 use blocks::marks::Marks;
+use calibration::Level;
 use entries::mapping::Mapped;
-use numbers::Real;
+use entries::revision::Revised;
+use segments::Added;
 
 // The marks of a block that lacks its last segment.
 const UNFINISHED: u32 = 0xFF_FFFF;
+
+// A mark above 24.
+const IMPOSSIBLE: u32 = 0x200_0000;
 
 fn told(name: &[u8], refusal: u8) {
     text::empty()
@@ -23,22 +31,43 @@ fn mapped(a: Mapped) -> u8 {
     }
 }
 
-fn real(a: Real) -> u8 {
+fn leveled(a: Level) -> u8 {
     match a {
-        Real::Is(_) => 0,
-        Real::Refused(k) => k,
+        Level::Is(_) => 0,
+        Level::Refused(k) => k,
     }
 }
 
-fn marks(segments: u32) -> Marks {
-    Marks { segments: segments }
+fn revised(a: Revised) -> u8 {
+    match a {
+        Revised::Is(_) => 0,
+        Revised::Refused(k) => k,
+    }
+}
+
+fn added(a: Added) -> u8 {
+    match a {
+        Added::Is(_) => 0,
+        Added::Refused(k) => k,
+    }
+}
+
+// The record of an assembly with these marks and numbers.
+fn record(segments: u32, calibration: u16, manam: u16) -> Assembly {
+    Assembly {
+        marks: Marks { segments: segments },
+        revisions: Revisions {
+            calibration: calibration,
+            manam: manam,
+        },
+    }
 }
 
 fn point(name: &[u8], segments: u32, row: u16, column: u16) {
     let block = [0u8; 2500];
     told(
         name,
-        mapped(entries::mapping::mapping(1, marks(segments), &block, row, column)),
+        mapped(entries::mapping::mapping(1, record(segments, 0, 0), &block, row, column)),
     );
 }
 
@@ -46,7 +75,7 @@ fn albedo(name: &[u8], format: u8, segments: u32, channel: u8, level: u16) {
     let block = [0u8; 25600];
     told(
         name,
-        real(calibration::albedo(format, marks(segments), &block, channel, level)),
+        leveled(calibration::albedo(format, record(segments, 0, 0), &block, channel, level)),
     );
 }
 
@@ -54,7 +83,25 @@ fn temperature(name: &[u8], format: u8, segments: u32, channel: u8, level: u16) 
     let block = [0u8; 25600];
     told(
         name,
-        real(calibration::temperature(format, marks(segments), &block, channel, level)),
+        leveled(calibration::temperature(format, record(segments, 0, 0), &block, channel, level)),
+    );
+}
+
+fn revision(name: &[u8], format: u8, segments: u32, number: u8) {
+    let block = [0u8; 25600];
+    told(
+        name,
+        revised(entries::revision::revision(format, record(segments, 0, 0), number, &block)),
+    );
+}
+
+// The line's segment, offered to an assembly whose block has this byte everywhere.
+fn offered(name: &[u8], a: Assembly, number: u8, byte: u8) {
+    let line = [0u8; 44356];
+    let mut block = [byte; 25600];
+    told(
+        name,
+        added(segments::add_segment(1, a, &line, number, &mut block)),
     );
 }
 
@@ -77,7 +124,7 @@ fn albedos() {
     albedo(b"albedo of 24 segments", 1, UNFINISHED, 1, 0);
     albedo(b"albedo level 64 of 24 segments", 1, UNFINISHED, 1, 64);
     albedo(b"albedo in format 2", 2, ALL, 1, 0);
-    albedo(b"albedo with a mark above 24", 1, 0x200_0000, 1, 0);
+    albedo(b"albedo with a mark above 24", 1, IMPOSSIBLE, 1, 0);
 }
 
 fn temperatures() {
@@ -91,8 +138,61 @@ fn temperatures() {
     temperature(b"temperature in format 2", 2, ALL, 1, 0);
 }
 
+fn revisions() {
+    revision(b"revision MANAM", 1, ALL, 3);
+    revision(b"revision calibration-1", 2, ALL, 4);
+    revision(b"revision calibration-2", 1, ALL, 5);
+    revision(b"revision calibration-2 in format 2", 2, ALL, 5);
+    revision(b"revision mapping", 1, ALL, 1);
+    revision(b"revision orbit", 1, ALL, 2);
+    revision(b"revision block 6", 1, ALL, 6);
+    revision(b"revision of 24 segments", 1, UNFINISHED, 3);
+    revision(b"revision with a mark above 24", 1, IMPOSSIBLE, 3);
+}
+
+fn segments() {
+    offered(b"first segment, numbers 5 and 7", record(0, 5, 7), 3, 0);
+    offered(b"equal segment of its own revision", record(1, 5, 0), 3, 0);
+    offered(
+        b"equal segment of another MANAM revision",
+        record(1, 0, 7),
+        3,
+        0,
+    );
+    offered(
+        b"equal segment of another calibration ID",
+        record(1, 5, 0),
+        5,
+        0,
+    );
+    offered(
+        b"calibration-1, another MANAM revision",
+        record(1, 0, 7),
+        4,
+        0,
+    );
+    offered(b"new segment of another revision", record(2, 0, 7), 3, 0);
+    offered(b"other bytes", record(1, 0, 0), 3, 1);
+    offered(b"other bytes of another revision", record(1, 0, 7), 3, 1);
+    offered(b"orbit, both numbers others", record(1, 5, 7), 2, 0);
+    offered(
+        b"mapping, other bytes, both numbers others",
+        record(1, 5, 7),
+        1,
+        1,
+    );
+    offered(
+        b"another revision and a mark above 24",
+        record(IMPOSSIBLE, 5, 7),
+        3,
+        0,
+    );
+}
+
 pub fn all() {
     points();
     albedos();
     temperatures();
+    revisions();
+    segments();
 }

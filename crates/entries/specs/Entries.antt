@@ -1,4 +1,4 @@
--- The entries of a finished block: the points of the mapping grid and the orbital elements.
+-- The entries of a finished block: its revision, the points of the mapping grid and the orbital elements.
 -- Places count bytes of the block from 1. Refusals stand in the order in which they are tested. Assumes nothing.
 use Prim.Native.Nat.{ℕ, _+_, _*_, _-_}
 use mathlib.Core.List.{List}
@@ -12,8 +12,12 @@ use Rattle.bits.specs.Bits.{stretch, inBase}
 use Rattle.numbers.specs.Reals.{realIn}
 use Rattle.numbers.specs.Floats.{valueOf, zeroFloat}
 use Rattle.blocks.specs.declared.marks.Marks.{Marks}
-use Rattle.blocks.specs.Blocks.{blockOf, mapping, orbit, blockRefusal}
+use Rattle.blocks.specs.declared.assembly.Assembly.{Assembly}
+use Rattle.blocks.specs.Blocks.{blockOf, mapping, orbit, manam, calibration2, blockRefusal}
 use Rattle.blocks.specs.Marking.{marksRefusal, unfinishedRefusal}
+use Rattle.blocks.specs.Record.{revisionOf}
+use Rattle.entries.specs.declared.revision.Revised.{Revised}
+use Rattle.entries.specs.declared.revision.Revised.the-variants as revised
 use Rattle.entries.specs.declared.mapping.Grid.{Grid}
 use Rattle.entries.specs.declared.mapping.Mapped.{Mapped}
 use Rattle.entries.specs.declared.mapping.Mapped.the-variants as mapped
@@ -28,6 +32,32 @@ unfoldable pub entryRefusal : ℕ → Marks → ℕ → ℕ → ℕ → ℕ → 
 entryRefusal f m n channel range given =
     first (first (formatRefusal f) (marksRefusal m))
     (first (first (first (blockRefusal f n) channel) range) (first (shortOf given (blockOf n .size) 2) (unfinishedRefusal m)))
+
+-- ---- the revision
+
+-- the paper's number and value for each answer
+abbrev pub revisedNumber : Revised → ℕ
+revisedNumber (revised.Is v) = 0
+revisedNumber (revised.Refused r) = r
+
+abbrev pub revisedValue : Revised → ℕ
+revisedValue (revised.Is v) = v
+revisedValue (revised.Refused r) = 0
+
+-- 1, 12, 4, 2, 9: MANAM and the calibration blocks have one
+abbrev pub revisionRefusal : ℕ → Assembly → ℕ → ℕ → ℕ
+revisionRefusal f a n given = entryRefusal f (a .marks) n (outsideOf manam calibration2 n 4) 0 given
+
+-- THE ANSWER to the revision of a block
+unfoldable pub revisionAnswer : ℕ → Assembly → ℕ → List ℕ → Revised
+revisionAnswer f a n block = answered revised.Refused (revisionRefusal f a n (length block)) (revised.Is (revisionOf n (a .revisions)))
+
+-- THE CONTRACT of `revision`: the number of its refusal, and the number that the block goes by, 0 where it is refused
+abbrev pub RevisionOk : ℕ → Assembly → ℕ → List ℕ → Revised → Type 0
+RevisionOk f a n block r =
+    (revisedNumber r ≡ revisionRefusal f a n (length block))
+    × (revisedValue r ≡ kept (revisionRefusal f a n (length block)) 0 (revisionOf n (a .revisions)))
+    × Genuine revised.Refused r
 
 -- ---- mapping
 

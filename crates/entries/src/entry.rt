@@ -3,7 +3,7 @@ ghost use mathlib.Core.Path.{_≡_};
 ghost use mathlib.Core.Bool.{false};
 ghost use Prim.Native.Nat.{_+_, _-_, _≤_};
 ghost use lib.ListN.{length};
-ghost use Rattle.bits.specs.Bits.{stretch, inBase};
+ghost use Rattle.bits.specs.Bits.{stretch};
 ghost use Rattle.numbers.specs.Reals.{noReal, realIn};
 ghost use Rattle.numbers.specs.Floats.{valueOf};
 ghost use Rattle.entries.specs.Entries.{entryRefusal};
@@ -38,16 +38,6 @@ pub fn entry_refusal(
         unfinished_refusal(marks),
     );
     first(asked, first(named, whole))
-}
-
-// Inner. The I*2 number at a place.
-pub fn integer_at(block: &[u8], place: usize) -> u16
-    requires { ⌜ (1 ≤ place) × (place + 1 ≤ length (now block)) ⌝ }
-    ensures { λ r. ⌜ r ≡ inBase 256 (stretch (now (block .entry)) (place - 1) 2) ⌝ }
-{
-    let at = place - 1;
-    let end = at + 2;
-    octets::whole(&block[at..end], 2) as u16
 }
 
 // Inner. The R*n.m number at a place.

@@ -4,9 +4,9 @@ ghost use Prim.Native.Nat.{_+_, _≤_};
 ghost use lib.ListN.{length};
 ghost use Rattle.entries.specs.Entries.{latitudeOf, firstLongitude, longitudeOf, gridAt, MappingOk};
 use crate::entry::entry_refusal;
-use crate::entry::integer_at;
+use blocks::assembly::Assembly;
 use blocks::block::MAPPING;
-use blocks::marks::Marks;
+use octets::integer_at;
 use refusals::first;
 
 // A point of the grid: the image line and pixel at a latitude in degrees north and a longitude in degrees east.
@@ -67,14 +67,14 @@ fn grid_at(format: u8, block: &[u8], row: u16, column: u16) -> Grid
 }
 
 // The point of a row and a column, each 0 to 24, of a finished mapping block. Refused with 1, 12, 10, 2, 9.
-pub fn mapping(format: u8, marks: Marks, block: &[u8], row: u16, column: u16) -> Mapped
-    ensures { λ r. ⌜ MappingOk format marks (now (block .entry)) row column r ⌝ }
+pub fn mapping(format: u8, assembly: Assembly, block: &[u8], row: u16, column: u16) -> Mapped
+    ensures { λ r. ⌜ MappingOk format (assembly .marks) (now (block .entry)) row column r ⌝ }
 {
     let range = first(
         refusals::outside(0, LAST, row as u64, refusals::RANGE),
         refusals::outside(0, LAST, column as u64, refusals::RANGE),
     );
-    let refused = entry_refusal(format, marks, MAPPING, 0, range, block.len());
+    let refused = entry_refusal(format, assembly.marks, MAPPING, 0, range, block.len());
     if refused != 0 {
         return Mapped::Refused(refused);
     }

@@ -5,8 +5,8 @@ ghost use lib.ListN.{length};
 ghost use Rattle.entries.specs.Entries.{elementsIn, ElementsOk};
 use crate::entry::entry_refusal;
 use crate::entry::float_at;
+use blocks::assembly::Assembly;
 use blocks::block::ORBIT;
-use blocks::marks::Marks;
 
 // The orbital elements, in the order of source 000's table 12, words 157 to 198: epoch (MJD), semi-major axis (km),
 // eccentricity, inclination, longitude of the ascending node, argument of perigee, mean anomaly (degrees).
@@ -43,10 +43,10 @@ fn elements_in(block: &[u8]) -> Orbit
 }
 
 // The orbital elements of a finished orbit block. Refused with 1, 12, 2, 9.
-pub fn elements(format: u8, marks: Marks, block: &[u8]) -> Orbital
-    ensures { λ r. ⌜ ElementsOk format marks (now (block .entry)) r ⌝ }
+pub fn elements(format: u8, assembly: Assembly, block: &[u8]) -> Orbital
+    ensures { λ r. ⌜ ElementsOk format (assembly .marks) (now (block .entry)) r ⌝ }
 {
-    let refused = entry_refusal(format, marks, ORBIT, 0, 0, block.len());
+    let refused = entry_refusal(format, assembly.marks, ORBIT, 0, 0, block.len());
     if refused != 0 {
         return Orbital::Refused(refused);
     }

@@ -1,192 +1,275 @@
-// The five blocks at the end of a recording: how many of its 25 segments each has; and of the finished ones the corners and a
-// point of the map, the orbital elements, and the first, a middle and the last level of each channel.
+// The five blocks at the end of a recording: how many of its 25 segments each has, the revision of a finished one, and how many
+// lines were foreign to it; and of the finished ones the corners and a point of the map, the orbital elements, and the first, a
+// middle and the last level of each channel.
 use crate::five::Five;
-use crate::five::marks_of;
+use crate::five::Kept;
+use crate::five::assembly_of;
+use crate::five::place_of;
+use crate::say::say;
+use blocks::assembly::Assembly;
+use blocks::block::CALIBRATION_2;
+use blocks::block::MAPPING;
+use blocks::block::ORBIT;
 use blocks::marks::ALL;
-use blocks::marks::Marks;
+use calibration::Level;
 use entries::mapping::Grid;
 use entries::mapping::Mapped;
 use entries::orbit::Orbital;
+use entries::revision::Revised;
 use numbers::R;
 use numbers::Real;
 use text::Row;
-
-// The bytes of the five blocks in all.
-const ROOM: usize = 47950;
 
 fn wide(n: u32) -> u64 {
     n as u64
 }
 
-// `NAME n/25`; whether it could be written.
-fn segments(name: &[u8], m: Marks) -> bool {
-    text::empty()
-        .words(name)
-        .words(b" ")
-        .number(wide(u32::count_ones(m.segments)))
-        .words(b"/25")
-        .write()
+// A block and how many segments it has; HiRID has no calibration-2.
+fn segments(place: u8, marks: u32) -> Row {
+    say(
+        text::empty(),
+        b"|mapping #/25|orbit #/25|MANAM #/25|calibration-1 #/25|calibration-2 #/25|calibration-2 not in HiRID",
+        place,
+        wide(u32::count_ones(marks)),
+        0,
+    )
 }
 
-// Degrees from 0 on one side or the other.
-fn degrees(row: Row, n: i16, above: &[u8], below: &[u8]) -> Row {
-    let away = row.number(text::magnitude(n as i32));
-    if n < 0 {
-        return away.words(below);
+// The place of a block's words in that list.
+fn words_of(format: u8, number: u8) -> u8 {
+    if number == CALIBRATION_2 {
+        if format == 2 {
+            return 6;
+        }
     }
-    away.words(above)
+    number
+}
+
+// The revision of a finished block. Mapping and orbit have none.
+fn revised(row: Row, format: u8, a: Assembly, number: u8, block: &[u8]) -> Row {
+    match entries::revision::revision(format, a, number, block) {
+        Revised::Is(n) => say(row, b" revision #", 0, n as u64, 0),
+        Revised::Refused(_) => row,
+    }
+}
+
+// How many lines were foreign to the block.
+fn foreign(row: Row, n: u64) -> Row {
+    if n == 0 {
+        return row;
+    }
+    say(row, b" foreign #", 0, n, 0)
+}
+
+// The row of a block.
+fn told(format: u8, k: Kept, number: u8, block: &[u8]) -> bool {
+    let counted = segments(words_of(format, number), k.marks);
+    let row = revised(counted, format, assembly_of(k), number, block);
+    foreign(row, k.foreign).write()
+}
+
+fn away(n: i16) -> u64 {
+    text::magnitude(n as i32)
+}
+
+// The words for degrees below 0 stand right behind those for the others.
+fn side(n: i16, place: u8) -> u8 {
+    if n < 0 {
+        return std::num::wrapping_add_u8(place, 1);
+    }
+    place
+}
+
+fn degrees(row: Row, n: i16, place: u8) -> Row {
+    say(
+        row,
+        b" latitude # north| latitude # south| longitude # east| longitude # west",
+        side(n, place),
+        away(n),
+        0,
+    )
 }
 
 fn say_grid(row: Row, g: Grid) -> Row {
-    let place = row.words(b" line ")
-        .number(g.line as u64)
-        .words(b" pixel ")
-        .number(g.pixel as u64);
-    let north = degrees(place.words(b" latitude "), g.latitude, b" north", b" south");
-    degrees(north.words(b" longitude "), g.longitude, b" east", b" west")
+    let image = say(row, b" line # pixel #", 0, g.line as u64, g.pixel as u64);
+    degrees(degrees(image, g.latitude, 0), g.longitude, 2)
 }
 
-fn point(format: u8, m: Marks, block: &[u8], row: u16, column: u16) -> bool {
-    let named = text::empty()
-        .words(b"mapping row ")
-        .number(row as u64)
-        .words(b" column ")
-        .number(column as u64);
-    match entries::mapping::mapping(format, m, block, row, column) {
+fn point(format: u8, a: Assembly, block: &[u8], row: u16, column: u16) -> bool {
+    let named = say(
+        text::empty(),
+        b"mapping row # column #",
+        0,
+        row as u64,
+        column as u64,
+    );
+    match entries::mapping::mapping(format, a, block, row, column) {
         Mapped::Is(g) => say_grid(named, g).write(),
         Mapped::Refused(k) => named.refused(k).write(),
     }
 }
 
-fn mapping(format: u8, m: Marks, block: &[u8]) -> bool {
-    if m.segments != ALL {
-        return true;
-    }
-    point(format, m, block, 0, 0)
-        && point(format, m, block, 0, 24)
-        && point(format, m, block, 24, 0)
-        && point(format, m, block, 24, 24)
-        && point(format, m, block, 12, 13)
+fn mapping(format: u8, a: Assembly, block: &[u8]) -> bool {
+    point(format, a, block, 0, 0)
+        && point(format, a, block, 0, 24)
+        && point(format, a, block, 24, 0)
+        && point(format, a, block, 24, 24)
+        && point(format, a, block, 12, 13)
 }
 
 fn say_r(row: Row, r: R) -> Row {
-    row.decimal(r.negative, r.magnitude, r.places)
+    row.words(b" ").decimal(r.negative, r.magnitude, r.places)
 }
 
 fn say_real(row: Row, r: Real) -> Row {
     match r {
-        Real::Is(x) => say_r(row.words(b" "), x),
+        Real::Is(x) => say_r(row, x),
         Real::Refused(k) => row.refused(k),
     }
 }
 
-// An orbital element with its decimal places, exactly as the block has it: an R*6 number behind so many bytes.
-fn element(row: Row, name: &[u8], block: &[u8], before: usize, places: u8) -> Row {
-    let named = row.words(name);
+fn element_name(row: Row, i: u8) -> Row {
+    say(
+        row,
+        b" epoch| axis| eccentricity| inclination| node| perigee| anomaly",
+        i,
+        0,
+        0,
+    )
+}
+
+// The decimal places of an element: two more for the eccentricity.
+fn places(i: u8) -> u8 {
+    if i == 2 { 10 } else { 8 }
+}
+
+// An orbital element with its decimal places, exactly as the block has it: R*6 numbers from byte 157 on.
+fn element(row: Row, block: &[u8], i: u8) -> Row {
+    let named = element_name(row, i);
+    let before = 156 + 6 * (i as usize);
     if block.len() < before {
         return named;
     }
-    say_real(named, numbers::read_real(&block[before..], 6, places))
+    say_real(named, numbers::read_real(&block[before..], 6, places(i)))
 }
 
 // The elements, in the order in which `entries::orbit::elements` gives them.
 fn say_orbit(row: Row, block: &[u8]) -> Row {
-    let epoch = element(row, b" epoch", block, 156, 8);
-    let axis = element(epoch, b" axis", block, 162, 8);
-    let eccentricity = element(axis, b" eccentricity", block, 168, 10);
-    let inclination = element(eccentricity, b" inclination", block, 174, 8);
-    let node = element(inclination, b" node", block, 180, 8);
-    let perigee = element(node, b" perigee", block, 186, 8);
-    element(perigee, b" anomaly", block, 192, 8)
+    let mut all = row;
+    let mut i: u8 = 0;
+    while i < 7 {
+        all = element(all, block, i);
+        i += 1;
+    }
+    all
 }
 
-fn orbit(format: u8, m: Marks, block: &[u8]) -> bool {
-    if m.segments != ALL {
-        return true;
-    }
+fn orbit(format: u8, a: Assembly, block: &[u8]) -> bool {
     let named = text::empty().words(b"orbit");
-    match entries::orbit::elements(format, m, block) {
+    match entries::orbit::elements(format, a, block) {
         Orbital::Is(_) => say_orbit(named, block).write(),
         Orbital::Refused(k) => named.refused(k).write(),
     }
 }
 
-// A level of a channel, and what it stands for.
-fn level(name: &[u8], channel: u8, n: u16, r: Real) -> bool {
-    let named = text::empty()
-        .words(name)
-        .number(channel as u64)
-        .words(b" level ")
-        .number(n as u64);
-    say_real(named, r).write()
+// The levels that are asked for: three of a visible channel, and three of an infrared one.
+fn level_at(i: u8) -> u16 {
+    match i {
+        1 => 32,
+        2 => 63,
+        4 => 512,
+        5 => 1023,
+        _ => 0,
+    }
 }
 
-fn albedo(format: u8, m: Marks, block: &[u8], v: u8, n: u16) -> bool {
-    level(
-        b"albedo VIS",
-        v,
-        n,
-        calibration::albedo(format, m, block, v, n),
+// What a level of a channel stands for: kind 0 is visible, 1 infrared.
+fn stands_for(format: u8, a: Assembly, block: &[u8], kind: u8, channel: u8, level: u16) -> Level {
+    if kind == 0 {
+        return calibration::albedo(format, a, block, channel, level);
+    }
+    calibration::temperature(format, a, block, channel, level)
+}
+
+fn level_name(kind: u8, channel: u8, level: u16) -> Row {
+    say(
+        text::empty(),
+        b"albedo VIS# level #|temperature IR# level #",
+        kind,
+        channel as u64,
+        level as u64,
     )
 }
 
-fn temperature(format: u8, m: Marks, block: &[u8], c: u8, n: u16) -> bool {
-    level(
-        b"temperature IR",
-        c,
-        n,
-        calibration::temperature(format, m, block, c, n),
+fn say_level(row: Row, l: Level) -> bool {
+    match l {
+        Level::Is(x) => say_r(row, x.value).write(),
+        Level::Refused(k) => row.refused(k).write(),
+    }
+}
+
+// Row i of 24: three levels of each of four channels, of the one kind and then of the other.
+fn level(format: u8, a: Assembly, block: &[u8], i: u8) -> bool {
+    let kind = i / 12;
+    let channel = i / 3 % 4 + 1;
+    let n = level_at(3 * kind + i % 3);
+    say_level(
+        level_name(kind, channel, n),
+        stands_for(format, a, block, kind, channel, n),
     )
 }
 
-fn albedos(format: u8, m: Marks, block: &[u8], v: u8) -> bool {
-    albedo(format, m, block, v, 0)
-        && albedo(format, m, block, v, 32)
-        && albedo(format, m, block, v, 63)
+fn levels(format: u8, a: Assembly, block: &[u8]) -> bool {
+    let mut i: u8 = 0;
+    while i < 24 {
+        if !level(format, a, block, i) {
+            return false;
+        }
+        i += 1;
+    }
+    true
 }
 
-fn temperatures(format: u8, m: Marks, block: &[u8], c: u8) -> bool {
-    temperature(format, m, block, c, 0)
-        && temperature(format, m, block, c, 512)
-        && temperature(format, m, block, c, 1023)
-}
-
-fn levels(format: u8, m: Marks, block: &[u8]) -> bool {
-    if m.segments != ALL {
+// Some entries of a finished block.
+fn entries_of(format: u8, a: Assembly, number: u8, block: &[u8]) -> bool {
+    if a.marks.segments != ALL {
         return true;
     }
-    albedos(format, m, block, 1)
-        && albedos(format, m, block, 2)
-        && albedos(format, m, block, 3)
-        && albedos(format, m, block, 4)
-        && temperatures(format, m, block, 1)
-        && temperatures(format, m, block, 2)
-        && temperatures(format, m, block, 3)
-        && temperatures(format, m, block, 4)
+    match number {
+        MAPPING => mapping(format, a, block),
+        ORBIT => orbit(format, a, block),
+        CALIBRATION_2 => levels(format, a, block),
+        _ => true,
+    }
 }
 
-// Which of the five are finished. HiRID has no calibration-2.
-fn five(format: u8, d: Five) -> bool {
-    let four = segments(b"mapping", marks_of(d, 0))
-        && segments(b"orbit", marks_of(d, 1))
-        && segments(b"MANAM", marks_of(d, 2))
-        && segments(b"calibration-1", marks_of(d, 3));
-    if !four {
+// The row of a block, or some of its entries. The other blocks stand behind it in what is lent.
+fn within(format: u8, k: Kept, number: u8, room: &[u8], asked: bool) -> bool {
+    let from = place_of(number);
+    if room.len() < from {
         return false;
     }
-    if format == 2 {
-        return text::empty().words(b"calibration-2 not in HiRID").write();
+    if asked {
+        return entries_of(format, assembly_of(k), number, &room[from..]);
     }
-    segments(b"calibration-2", marks_of(d, 4))
+    told(format, k, number, &room[from..])
+}
+
+// That of all five.
+fn each(format: u8, d: Five, room: &[u8], asked: bool) -> bool {
+    let kept = d.kept;
+    let mut number: u8 = 1;
+    while number < 6 {
+        let i = number as usize;
+        if !within(format, kept[i], number, room, asked) {
+            return false;
+        }
+        number += 1;
+    }
+    true
 }
 
 // All of it; whether it could be written.
 pub fn show(format: u8, d: Five, room: &[u8]) -> bool {
-    if room.len() < ROOM {
-        return false;
-    }
-    five(format, d)
-        && mapping(format, marks_of(d, 0), &room[0..2500])
-        && orbit(format, marks_of(d, 1), &room[2500..5700])
-        && levels(format, marks_of(d, 4), &room[22350..47950])
+    each(format, d, room, false) && each(format, d, room, true)
 }

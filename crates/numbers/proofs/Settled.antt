@@ -5,7 +5,7 @@ use mathlib.Core.Path.{_≡_, refl, sym, ap, subst, _∙_}
 use Prim.Native.Nat.{ℕ, zero, suc}
 use native.Mathlib.Omega.{arith}
 use Rattle.refusals.specs.Refusals.{answered}
-use Rattle.refusals.proofs.Says.{Kind, Says, says-of, says-is}
+use Rattle.refusals.proofs.Says.{Kind, Says, says-of, says-is, says-carried}
 use Rattle.numbers.specs.declared.Integer.{Integer}
 use Rattle.numbers.specs.declared.Integer.the-variants as integer
 use Rattle.numbers.specs.declared.Bcd.{Bcd}
@@ -111,9 +111,5 @@ says-fits k v a s h = subst FitsIn (sym (says-is reals k v a s)) (go k h)
 
 -- and in f64 it is refused as the R is, and else is its value
 pub says-float : (k : ℕ) (v : R) (a : Real) (x : Float) → Says reals k v a → x ≡ asFloat a → Says floats k (valueOf v) x
-unfolding answered asFloat
-says-float k v a x s e = says-of floats x k (valueOf v) (e ∙ ap asFloat (says-is reals k v a s) ∙ go k)
-  where
-    go : (k : ℕ) → asFloat (answered real.Refused k (real.Is v)) ≡ answered float.Refused k (float.Is (valueOf v))
-    go zero = refl
-    go (suc k) = refl
+unfolding asFloat
+says-float = says-carried reals floats asFloat valueOf (λ n. refl) (λ v. refl)

@@ -1,4 +1,5 @@
-// Whole bytes of slices: copied, compared, filled, and the numbers that they write, high byte first. Places count from 0.
+// Whole bytes of slices: copied, compared, filled, and the numbers that they write, high byte first. Places count from 0, but for
+// `integer_at`.
 //
 // The contracts cite the definitions of the crate `bits`: `stretch` is some bytes of a slice, `same` compares two, `inBase 256` is
 // the number that bytes write and `fieldsOf 8` the bytes of one.
@@ -7,7 +8,7 @@
 // make, refuse instead.
 ghost use mathlib.Core.Path.{_≡_};
 ghost use mathlib.Core.List.{_++_};
-ghost use Prim.Native.Nat.{_+_, _*_, _^_, _≤_, _<_};
+ghost use Prim.Native.Nat.{_+_, _-_, _*_, _^_, _≤_, _<_};
 ghost use lib.ListN.{length, getD, take, drop, replicate};
 ghost use Rattle.bits.specs.Bits.{stretch, same, digits, inBase, fieldsOf};
 
@@ -72,6 +73,16 @@ pub fn whole(bytes: &[u8], n: usize) -> u64
         left -= 1;
     }
     a
+}
+
+// Inner. The I*2 number at a place: two bytes, high byte first. The place counts from 1, as the paper's do.
+pub fn integer_at(bytes: &[u8], place: usize) -> u16
+    requires { ⌜ (1 ≤ place) × (place + 1 ≤ length (now bytes)) ⌝ }
+    ensures { λ r. ⌜ r ≡ inBase 256 (stretch (now (bytes .entry)) (place - 1) 2) ⌝ }
+{
+    let at = place - 1;
+    let end = at + 2;
+    whole(&bytes[at..end], 2) as u16
 }
 
 // Inner. The low n bytes of v, high byte first, put at the front; what lies behind them is kept.

@@ -7,3 +7,4 @@ pub mod Demand2
 pub mod Iced
 pub mod Zeros
 pub mod UniqueAcross
+pub mod Assembled

@@ -41,6 +41,13 @@ use Rattle.document_stamps.specs.declared.dates.Dated.{Dated}
 use Rattle.document_stamps.specs.declared.dates.Dated.the-variants as dated
 use Rattle.segments.specs.declared.Added.{Added}
 use Rattle.segments.specs.declared.Added.the-variants as added
+use Rattle.entries.specs.declared.revision.Revised.{Revised}
+use Rattle.entries.specs.declared.revision.Revised.the-variants as revised
+use Rattle.calibration.specs.declared.Level.{Level}
+use Rattle.calibration.specs.declared.Level.the-variants as level
+use Rattle.calibration.specs.declared.LevelF64.{LevelF64}
+use Rattle.calibration.specs.declared.LevelF64.the-variants as level-f64
+use Rattle.rack_blocks.specs.declared.AssemblyRecord.{AssemblyRecord}
 use Rattle.entries.specs.declared.mapping.Mapped.{Mapped}
 use Rattle.entries.specs.declared.mapping.Mapped.the-variants as mapped
 use Rattle.entries.specs.declared.orbit.Orbital.{Orbital}
@@ -52,8 +59,9 @@ use Rattle.rack_recording.specs.declared.ReadAnswer.{ReadAnswer}
 use Rattle.rack_recording.specs.Recording.{readOf, writtenGiven}
 use Rattle.rack_sector.specs.Sector.{twelveGiven, fillerGiven, stripGiven}
 use Rattle.rack_document.specs.Documentation.{nameGiven, scanGiven, scannerGiven, linesGiven, dateGiven, segmentGiven}
-use Rattle.rack_blocks.specs.Assembly.{addGiven, gridGiven, orbitGiven}
-use Rattle.rack.specs.Zeros.{FormatAlone, CountAlone, TwelveAlone, StripAlone, IntegerAlone, BcdAlone, RealAlone, FloatAlone, NameAlone, LinesAlone, DateAlone, SegmentAlone, GridAlone, OrbitAlone, StepBack, ReadBack, AddBack, Zeros}
+use Rattle.rack_blocks.specs.Assembly.{addGiven, revisionGiven}
+use Rattle.rack_entries.specs.Entry.{levelGiven, levelF64Given, gridGiven, orbitGiven}
+use Rattle.rack.specs.Zeros.{FormatAlone, CountAlone, TwelveAlone, StripAlone, IntegerAlone, BcdAlone, RealAlone, FloatAlone, NameAlone, LinesAlone, DateAlone, SegmentAlone, RevisionAlone, LevelAlone, LevelFloatAlone, GridAlone, OrbitAlone, StepBack, ReadBack, AddBack, Zeros}
 use Rattle.rack.proofs.Records.{read-refused}
 
 format-row : (a : formats.FormatAnswer) → FormatAlone (formatGiven a)
@@ -136,10 +144,25 @@ unfolding orbitGiven
 orbit-row (orbital.Is k) h = absurd (h refl)
 orbit-row (orbital.Refused n) h = refl
 
-add-row : (marks : ℕ) (a : Added) → AddBack marks (addGiven marks a)
+add-row : (was : AssemblyRecord) (a : Added) → AddBack was (addGiven was a)
 unfolding addGiven
-add-row marks (added.Is p) h = absurd (h refl)
-add-row marks (added.Refused n) h = refl
+add-row was (added.Is p) h = absurd (h refl)
+add-row was (added.Refused n) h = refl
+
+revision-row : (a : Revised) → RevisionAlone (revisionGiven a)
+unfolding revisionGiven
+revision-row (revised.Is v) h = absurd (h refl)
+revision-row (revised.Refused n) h = refl
+
+level-row : (a : Level) → LevelAlone (levelGiven a)
+unfolding levelGiven
+level-row (level.Is v) h = absurd (h refl)
+level-row (level.Refused n) h = refl
+
+level-f64-row : (a : LevelF64) → LevelFloatAlone (levelF64Given a)
+unfolding levelF64Given
+level-f64-row (level-f64.Is v) h = absurd (h refl)
+level-f64-row (level-f64.Refused n) h = refl
 
 step-row : (register : ℕ) → StepBack register (stepGiven (stepAnswer register) (registerLeft register))
 unfolding stepGiven stepAnswer registerLeft answered kept
@@ -185,6 +208,9 @@ zeros = record {
   date = date-row;
   sub-commutation = segment-row;
   add-segment = add-row;
+  revision = revision-row;
+  level = level-row;
+  level-f64 = level-f64-row;
   mapping = grid-row;
   elements = orbit-row;
 }

@@ -2,3 +2,4 @@ pub mod Run
 pub mod Demand3
 pub mod Zeros
 pub mod UniqueAcross
+pub mod Assembled

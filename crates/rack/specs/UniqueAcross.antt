@@ -26,9 +26,9 @@ use Rattle.document.specs.Segments.{subCommutationAnswer}
 use Rattle.document_stamps.specs.Lines.{lineNumbersAnswer}
 use Rattle.document_stamps.specs.Dates.{dateAnswer}
 use Rattle.document_fields.specs.Fields.{integerFieldAnswer, bcdFieldAnswer, realFieldAnswer, f64FieldAnswer}
-use Rattle.blocks.specs.Marking.{noMarks}
+use Rattle.blocks.specs.Record.{freshAssembly}
 use Rattle.segments.specs.Assembly.{addSegmentAnswer, addSegmentLeft}
-use Rattle.entries.specs.Entries.{mappingAnswer, elementsAnswer}
+use Rattle.entries.specs.Entries.{revisionAnswer, mappingAnswer, elementsAnswer}
 use Rattle.calibration.specs.Tables.{albedos, temperatures, levelAnswer, levelF64Answer}
 use Rattle.demands.specs.Unique.{One, OneWith, OneInBytes}
 use Rattle.rack_number.specs.declared.CountAnswer.{CountAnswer}
@@ -52,10 +52,15 @@ use Rattle.rack_document.specs.declared.LinesAnswer.{LinesAnswer}
 use Rattle.rack_document.specs.declared.DateAnswer.{DateAnswer}
 use Rattle.rack_document.specs.declared.SegmentAnswer.{SegmentAnswer}
 use Rattle.rack_document.specs.Documentation.{scanGiven, scannerGiven, linesGiven, dateGiven, segmentGiven}
+use Rattle.rack_blocks.specs.declared.AssemblyRecord.{AssemblyRecord}
 use Rattle.rack_blocks.specs.declared.AddAnswer.{AddAnswer}
-use Rattle.rack_blocks.specs.declared.GridAnswer.{GridAnswer}
-use Rattle.rack_blocks.specs.declared.OrbitAnswer.{OrbitAnswer}
-use Rattle.rack_blocks.specs.Assembly.{marksOf, addGiven, gridGiven, orbitGiven}
+use Rattle.rack_blocks.specs.declared.RevisionAnswer.{RevisionAnswer}
+use Rattle.rack_entries.specs.declared.LevelAnswer.{LevelAnswer}
+use Rattle.rack_entries.specs.declared.LevelFloatAnswer.{LevelFloatAnswer}
+use Rattle.rack_entries.specs.declared.GridAnswer.{GridAnswer}
+use Rattle.rack_entries.specs.declared.OrbitAnswer.{OrbitAnswer}
+use Rattle.rack_blocks.specs.Assembly.{assemblyOf, recordOf, addGiven, revisionGiven}
+use Rattle.rack_entries.specs.Entry.{levelGiven, levelF64Given, gridGiven, orbitGiven}
 
 pub record UniqueAcross : Type 0 where
   -- the version
@@ -98,11 +103,12 @@ pub record UniqueAcross : Type 0 where
   pub real-field : (f : ℕ) (line : List ℕ) (place n m : ℕ) → One (λ (r : RealAnswer). r ≡ realGiven (realFieldAnswer f line place n m))
   pub f64-field : (f : ℕ) (line : List ℕ) (place n m : ℕ) → One (λ (r : FloatAnswer). r ≡ floatGiven (f64FieldAnswer f line place n m))
   -- blocks
-  pub no-marks : One (λ (r : ℕ). r ≡ noMarks .segments)
-  pub add-segment : (f m : ℕ) (line : List ℕ) (number : ℕ) (block : List ℕ) → OneWith (λ (r : AddAnswer) (x : List ℕ). (r ≡ addGiven m (addSegmentAnswer f (marksOf m) line number block)) × (x ≡ addSegmentLeft f (marksOf m) line number block))
-  pub mapping : (f m : ℕ) (block : List ℕ) (row column : ℕ) → One (λ (r : GridAnswer). r ≡ gridGiven (mappingAnswer f (marksOf m) block row column))
-  pub albedo : (f m : ℕ) (block : List ℕ) (channel level : ℕ) → One (λ (r : RealAnswer). r ≡ realGiven (levelAnswer albedos f (marksOf m) block channel level))
-  pub albedo-f64 : (f m : ℕ) (block : List ℕ) (channel level : ℕ) → One (λ (r : FloatAnswer). r ≡ floatGiven (levelF64Answer albedos f (marksOf m) block channel level))
-  pub temperature : (f m : ℕ) (block : List ℕ) (channel level : ℕ) → One (λ (r : RealAnswer). r ≡ realGiven (levelAnswer temperatures f (marksOf m) block channel level))
-  pub temperature-f64 : (f m : ℕ) (block : List ℕ) (channel level : ℕ) → One (λ (r : FloatAnswer). r ≡ floatGiven (levelF64Answer temperatures f (marksOf m) block channel level))
-  pub elements : (f m : ℕ) (block : List ℕ) → One (λ (r : OrbitAnswer). r ≡ orbitGiven (elementsAnswer f (marksOf m) block))
+  pub fresh-assembly : One (λ (r : AssemblyRecord). r ≡ recordOf freshAssembly)
+  pub add-segment : (f : ℕ) (a : AssemblyRecord) (line : List ℕ) (number : ℕ) (block : List ℕ) → OneWith (λ (r : AddAnswer) (x : List ℕ). (r ≡ addGiven a (addSegmentAnswer f (assemblyOf a) line number block)) × (x ≡ addSegmentLeft f (assemblyOf a) line number block))
+  pub revision : (f : ℕ) (a : AssemblyRecord) (number : ℕ) (block : List ℕ) → One (λ (r : RevisionAnswer). r ≡ revisionGiven (revisionAnswer f (assemblyOf a) number block))
+  pub mapping : (f : ℕ) (a : AssemblyRecord) (block : List ℕ) (row column : ℕ) → One (λ (r : GridAnswer). r ≡ gridGiven (mappingAnswer f (assemblyOf a .marks) block row column))
+  pub albedo : (f : ℕ) (a : AssemblyRecord) (block : List ℕ) (channel level : ℕ) → One (λ (r : LevelAnswer). r ≡ levelGiven (levelAnswer albedos f (assemblyOf a) block channel level))
+  pub albedo-f64 : (f : ℕ) (a : AssemblyRecord) (block : List ℕ) (channel level : ℕ) → One (λ (r : LevelFloatAnswer). r ≡ levelF64Given (levelF64Answer albedos f (assemblyOf a) block channel level))
+  pub temperature : (f : ℕ) (a : AssemblyRecord) (block : List ℕ) (channel level : ℕ) → One (λ (r : LevelAnswer). r ≡ levelGiven (levelAnswer temperatures f (assemblyOf a) block channel level))
+  pub temperature-f64 : (f : ℕ) (a : AssemblyRecord) (block : List ℕ) (channel level : ℕ) → One (λ (r : LevelFloatAnswer). r ≡ levelF64Given (levelF64Answer temperatures f (assemblyOf a) block channel level))
+  pub elements : (f : ℕ) (a : AssemblyRecord) (block : List ℕ) → One (λ (r : OrbitAnswer). r ≡ orbitGiven (elementsAnswer f (assemblyOf a .marks) block))

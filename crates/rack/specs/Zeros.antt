@@ -1,5 +1,5 @@
--- EVERY REFUSED ANSWER ACROSS THE BOUNDARY has its number and 0 elsewhere; only a register, the reader's record and the marks come back
--- as they were handed in. One list, a row for each layout of an answer: every call that has it gives the layout of some answer `a`, or
+-- EVERY REFUSED ANSWER ACROSS THE BOUNDARY has its number and 0 elsewhere; only a register, the reader's record and that of an
+-- assembly come back as they were handed in. One list, a row for each layout of an answer: every call that has it gives the layout of some answer `a`, or
 -- the row names the call. The other calls answer with a number alone. Assumes nothing.
 use mathlib.Core.Bool.{false}
 use mathlib.Core.List.{List}
@@ -25,6 +25,9 @@ use Rattle.document.specs.declared.segments.SubCommutation.{SubCommutation}
 use Rattle.document_stamps.specs.declared.lines.Numbered.{Numbered}
 use Rattle.document_stamps.specs.declared.dates.Dated.{Dated}
 use Rattle.segments.specs.declared.Added.{Added}
+use Rattle.entries.specs.declared.revision.Revised.{Revised}
+use Rattle.calibration.specs.declared.Level.{Level}
+use Rattle.calibration.specs.declared.LevelF64.{LevelF64}
 use Rattle.entries.specs.declared.mapping.Mapped.{Mapped}
 use Rattle.entries.specs.declared.orbit.Orbital.{Orbital}
 use Rattle.demands.specs.Refusals.{Refuses}
@@ -48,10 +51,15 @@ use Rattle.rack_document.specs.declared.LinesAnswer.{LinesAnswer}
 use Rattle.rack_document.specs.declared.DateAnswer.{DateAnswer}
 use Rattle.rack_document.specs.declared.SegmentAnswer.{SegmentAnswer}
 use Rattle.rack_document.specs.Documentation.{scanGiven, scannerGiven, linesGiven, dateGiven, segmentGiven}
+use Rattle.rack_blocks.specs.declared.AssemblyRecord.{AssemblyRecord}
 use Rattle.rack_blocks.specs.declared.AddAnswer.{AddAnswer}
-use Rattle.rack_blocks.specs.declared.GridAnswer.{GridAnswer}
-use Rattle.rack_blocks.specs.declared.OrbitAnswer.{OrbitAnswer}
-use Rattle.rack_blocks.specs.Assembly.{addGiven, gridGiven, orbitGiven}
+use Rattle.rack_blocks.specs.declared.RevisionAnswer.{RevisionAnswer}
+use Rattle.rack_entries.specs.declared.LevelAnswer.{LevelAnswer}
+use Rattle.rack_entries.specs.declared.LevelFloatAnswer.{LevelFloatAnswer}
+use Rattle.rack_entries.specs.declared.GridAnswer.{GridAnswer}
+use Rattle.rack_entries.specs.declared.OrbitAnswer.{OrbitAnswer}
+use Rattle.rack_blocks.specs.Assembly.{addGiven, revisionGiven}
+use Rattle.rack_entries.specs.Entry.{levelGiven, levelF64Given, gridGiven, orbitGiven}
 
 -- a refused answer has the number alone
 abbrev pub FormatAlone : FormatAnswer → Type 0
@@ -76,11 +84,11 @@ IntegerAlone a = Refuses (a .refused) → a ≡ record { refused = a .refused; v
 abbrev pub BcdAlone : BcdAnswer → Type 0
 BcdAlone a = Refuses (a .refused) → a ≡ record { refused = a .refused; value = 0 }
 
--- `read_real`, `real_field`, `albedo`, `temperature`
+-- `read_real`, `real_field`
 abbrev pub RealAlone : RealAnswer → Type 0
 RealAlone a = Refuses (a .refused) → a ≡ record { refused = a .refused; negative = false; places = 0; magnitude = 0 }
 
--- `read_f64`, `f64_field`, `albedo_f64`, `temperature_f64`
+-- `read_f64`, `f64_field`
 abbrev pub FloatAlone : FloatAnswer → Type 0
 FloatAlone a = Refuses (a .refused) → a ≡ record { refused = a .refused; value = zeroFloat }
 
@@ -99,6 +107,18 @@ DateAlone a = Refuses (a .refused) → a ≡ record { refused = a .refused; mont
 abbrev pub SegmentAlone : SegmentAnswer → Type 0
 SegmentAlone a = Refuses (a .refused) → a ≡ record { refused = a .refused; segment = 0; repeat = 0 }
 
+-- `revision`
+abbrev pub RevisionAlone : RevisionAnswer → Type 0
+RevisionAlone a = Refuses (a .refused) → a ≡ record { refused = a .refused; revision = 0 }
+
+-- `albedo`, `temperature`
+abbrev pub LevelAlone : LevelAnswer → Type 0
+LevelAlone a = Refuses (a .refused) → a ≡ record { refused = a .refused; negative = false; places = 0; revision = 0; magnitude = 0 }
+
+-- `albedo_f64`, `temperature_f64`
+abbrev pub LevelFloatAlone : LevelFloatAnswer → Type 0
+LevelFloatAlone a = Refuses (a .refused) → a ≡ record { refused = a .refused; revision = 0; value = zeroFloat }
+
 -- `mapping`
 abbrev pub GridAlone : GridAnswer → Type 0
 GridAlone a = Refuses (a .refused) → a ≡ record { refused = a .refused; line = 0; pixel = 0; latitude = pos 0; longitude = pos 0 }
@@ -107,15 +127,15 @@ GridAlone a = Refuses (a .refused) → a ≡ record { refused = a .refused; line
 abbrev pub OrbitAlone : OrbitAnswer → Type 0
 OrbitAlone a = Refuses (a .refused) → a ≡ record { refused = a .refused; epoch = zeroFloat; axis = zeroFloat; eccentricity = zeroFloat; inclination = zeroFloat; node = zeroFloat; perigee = zeroFloat; anomaly = zeroFloat }
 
--- and what was handed in: the register, the reader's record, the marks
+-- and what was handed in: the register, the reader's record, the record of an assembly
 abbrev pub StepBack : ℕ → StepAnswer → Type 0
 StepBack register a = Refuses (a .refused) → a ≡ record { refused = a .refused; bit = 0; register = register }
 
 abbrev pub ReadBack : ReaderState → ReadAnswer → Type 0
 ReadBack s a = Refuses (a .refused) → a ≡ record { refused = a .refused; complete = false; taken = 0; state = s }
 
-abbrev pub AddBack : ℕ → AddAnswer → Type 0
-AddBack marks a = Refuses (a .refused) → a ≡ record { refused = a .refused; «first_copy» = false; segment = 0; marks = marks }
+abbrev pub AddBack : AssemblyRecord → AddAnswer → Type 0
+AddBack was a = Refuses (a .refused) → a ≡ record { refused = a .refused; «first_copy» = false; segment = 0; assembly = was }
 
 pub record Zeros : Type 0 where
   pub format-of : (a : formats.FormatAnswer) → FormatAlone (formatGiven a)
@@ -136,6 +156,9 @@ pub record Zeros : Type 0 where
   pub line-numbers : (a : Numbered) → LinesAlone (linesGiven a)
   pub date : (a : Dated) → DateAlone (dateGiven a)
   pub sub-commutation : (a : SubCommutation) → SegmentAlone (segmentGiven a)
-  pub add-segment : (marks : ℕ) (a : Added) → AddBack marks (addGiven marks a)
+  pub add-segment : (was : AssemblyRecord) (a : Added) → AddBack was (addGiven was a)
+  pub revision : (a : Revised) → RevisionAlone (revisionGiven a)
+  pub level : (a : Level) → LevelAlone (levelGiven a)
+  pub level-f64 : (a : LevelF64) → LevelFloatAlone (levelF64Given a)
   pub mapping : (a : Mapped) → GridAlone (gridGiven a)
   pub elements : (a : Orbital) → OrbitAlone (orbitGiven a)

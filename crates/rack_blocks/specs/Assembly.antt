@@ -1,44 +1,33 @@
--- Marks and entries of blocks as they cross the boundary: marks are the number that their record holds. Assumes nothing.
-use Prim.Native.Nat.{ℕ}
-use Rattle.blocks.specs.declared.marks.Marks.{Marks}
+-- The record of an assembly, a segment added and a revision as they cross the boundary. Assumes nothing.
+use Rattle.blocks.specs.declared.assembly.Assembly.{Assembly}
 use Rattle.segments.specs.declared.Added.{Added}
-use Rattle.entries.specs.declared.mapping.Mapped.{Mapped}
-use Rattle.entries.specs.declared.orbit.Orbital.{Orbital}
-use Rattle.segments.specs.Assembly.{addedNumber, addedSegment, addedNew, marksAfter}
-use Rattle.entries.specs.Entries.{mappedNumber, mappedPoint, orbitalNumber, orbitalElements}
+use Rattle.segments.specs.declared.Added.the-variants.{Is, Refused}
+use Rattle.entries.specs.declared.revision.Revised.{Revised}
+use Rattle.segments.specs.Assembly.{addedNumber, addedSegment, addedNew}
+use Rattle.entries.specs.Entries.{revisedNumber, revisedValue}
+use Rattle.rack_blocks.specs.declared.AssemblyRecord.{AssemblyRecord}
 use Rattle.rack_blocks.specs.declared.AddAnswer.{AddAnswer}
-use Rattle.rack_blocks.specs.declared.GridAnswer.{GridAnswer}
-use Rattle.rack_blocks.specs.declared.OrbitAnswer.{OrbitAnswer}
+use Rattle.rack_blocks.specs.declared.RevisionAnswer.{RevisionAnswer}
 
-abbrev pub marksOf : ℕ → Marks
-marksOf n = record { segments = n }
+-- the record as the calls take it, and as it crosses
+abbrev pub assemblyOf : AssemblyRecord → Assembly
+assemblyOf a = record { marks = record { segments = a .marks }; revisions = record { calibration = a .calibration; manam = a .manam } }
 
--- the answer, with the marks that were handed in: a refused call gives them back
-unfoldable pub addGiven : ℕ → Added → AddAnswer
+abbrev pub recordOf : Assembly → AssemblyRecord
+recordOf a = record { marks = a .marks .segments; calibration = a .revisions .calibration; manam = a .revisions .manam }
+
+-- the record after an answer: a refused call gives back the one that it was handed
+abbrev pub recordAfter : AssemblyRecord → Added → AssemblyRecord
+recordAfter was (Is p) = recordOf (p .assembly)
+recordAfter was (Refused k) = was
+
+unfoldable pub addGiven : AssemblyRecord → Added → AddAnswer
 addGiven was a = record {
   refused = addedNumber a;
   «first_copy» = addedNew a;
   segment = addedSegment a;
-  marks = marksAfter (marksOf was) a .segments;
+  assembly = recordAfter was a;
 }
 
-unfoldable pub gridGiven : Mapped → GridAnswer
-gridGiven a = record {
-  refused = mappedNumber a;
-  line = mappedPoint a .line;
-  pixel = mappedPoint a .pixel;
-  latitude = mappedPoint a .latitude;
-  longitude = mappedPoint a .longitude;
-}
-
-unfoldable pub orbitGiven : Orbital → OrbitAnswer
-orbitGiven a = record {
-  refused = orbitalNumber a;
-  epoch = orbitalElements a .epoch;
-  axis = orbitalElements a .axis;
-  eccentricity = orbitalElements a .eccentricity;
-  inclination = orbitalElements a .inclination;
-  node = orbitalElements a .node;
-  perigee = orbitalElements a .perigee;
-  anomaly = orbitalElements a .anomaly;
-}
+unfoldable pub revisionGiven : Revised → RevisionAnswer
+revisionGiven a = record { refused = revisedNumber a; revision = revisedValue a }

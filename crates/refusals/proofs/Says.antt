@@ -57,3 +57,14 @@ module _ {A B : Type 0} {refuse : ℕ → A} {give : B → A} {number : A → �
   -- ANY TWO ANSWERS THAT A CONTRACT ALLOWS ARE THE SAME
   pub says-one : (k : ℕ) (v : B) (r s : A) → Says k v r → Says k v s → r ≡ s
   says-one k v r s p q = says-is k v r p ∙ sym (says-is k v s q)
+
+-- AN ANSWER CARRIED OVER TO ANOTHER KIND, refused as it was and else with a value made of its own
+module _ {A B A′ B′ : Type 0} {refuse : ℕ → A} {give : B → A} {number : A → ℕ} {value : A → B} {nothing : B} {refuse′ : ℕ → A′} {give′ : B′ → A′} {number′ : A′ → ℕ} {value′ : A′ → B′} {nothing′ : B′}
+    (kind : Kind refuse give number value nothing) (kind′ : Kind refuse′ give′ number′ value′ nothing′) (over : A → A′) (made : B → B′) where
+  pub says-carried : ((n : ℕ) → over (refuse n) ≡ refuse′ n) → ((v : B) → over (give v) ≡ give′ (made v)) → (k : ℕ) (v : B) (a : A) (x : A′) → Says kind k v a → x ≡ over a → Says kind′ k (made v) x
+  unfolding answered
+  says-carried refused given k v a x s e = says-of kind′ x k (made v) (e ∙ ap over (says-is kind k v a s) ∙ go k)
+    where
+      go : (k : ℕ) → over (answered refuse k (give v)) ≡ answered refuse′ k (give′ (made v))
+      go zero = given v
+      go (suc k) = refused (suc k)

@@ -2,7 +2,7 @@
 -- call tests, one number with its test after the other; a computed test says whether its numbers stand in the table's order.
 -- Assumes nothing.
 use Prim.Native.Nat.{ℕ}
-use mathlib.Core.Bool.{Bool, true, false, cond, _&&_}
+use mathlib.Core.Bool.{Bool, true, false, not, cond, _&&_}
 use mathlib.Core.List.{List, [], _∷_, _++_}
 use mathlib.Core.Path.{_≡_}
 use lib.Dec.{eqb}
@@ -10,7 +10,7 @@ use Rattle.refusals.specs.Refusals.{first, when}
 
 -- the numbers of the table, from its top
 abbrev pub order : List ℕ
-order = 1 ∷ 13 ∷ 12 ∷ 4 ∷ 10 ∷ 11 ∷ 2 ∷ 3 ∷ 5 ∷ 6 ∷ 7 ∷ 8 ∷ 9 ∷ []
+order = 1 ∷ 13 ∷ 12 ∷ 4 ∷ 10 ∷ 11 ∷ 2 ∷ 3 ∷ 5 ∷ 6 ∷ 7 ∷ 14 ∷ 8 ∷ 9 ∷ []
 
 -- a number, and whether its test applies
 abbrev pub Test : Type 0
@@ -34,6 +34,11 @@ orderedBy (t ∷ ts) ss = orderedBy ts (past t ss)
 
 abbrev pub ordered : List Test → Bool
 ordered ts = orderedBy order ts
+
+-- no test has this number
+abbrev pub lacks : ℕ → List Test → Bool
+lacks k [] = true
+lacks k (t ∷ ts) = not (eqb (t .0) k) && lacks k ts
 
 -- several chains, one behind the other
 abbrev pub allOrdered : List (List Test) → Bool

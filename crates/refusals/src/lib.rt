@@ -42,6 +42,9 @@ pub const ID: u8 = 6;
 // A BCD digit is over 9, a date part out of range, byte 193 or 195 not 0, the segment above 24 or the repeat above 7.
 pub const FIELD: u8 = 7;
 
+// The segment is of another revision of the tables than the assembly.
+pub const REVISION: u8 = 14;
+
 // The segment differs from the stored one.
 pub const SEGMENT: u8 = 8;
 

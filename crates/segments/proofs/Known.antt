@@ -1,6 +1,6 @@
 -- What is known once a line's segment is added or found the same: which block, which segment, and that the bytes are
 -- there. Assumes nothing.
-use mathlib.Core.Path.{_≡_, refl, sym, ap, subst, _∙_}
+use mathlib.Core.Path.{_≡_, refl, sym, ap, ap₂, subst, _∙_}
 use mathlib.Core.Bool.{Bool, true, false, not, _||_, _&&_, cond}
 use mathlib.Core.List.{List, _++_}
 use Prim.Native.Nat.{ℕ, zero, suc, _+_, _*_, _-_, _≤_}
@@ -9,7 +9,9 @@ use lib.Dec.{eqb, ltb, leb}
 use lib.ListN.{length, take, drop}
 use borrow.Author.Tests.{ltb-false, leb-true, not-false}
 use Rattle.refusals.specs.Refusals.{first, when, shortOf, outsideOf, answered, kept}
-use Rattle.refusals.proofs.Words.{first-none, none-first, none-second, none-when, kept-none, enough, Inside, inside, or-false}
+use Rattle.refusals.proofs.Words.{first-none, none-first, none-second, none-when, kept-some, kept-none, enough, Inside, inside, or-false}
+use Rattle.refusals.proofs.Chains.{first-zero}
+use Rattle.refusals.proofs.Given.{given-some, given-none}
 use Rattle.refusals.proofs.Says.{Says}
 use Rattle.formats.specs.Formats.{lineBytes, formatRefusal}
 use Rattle.bits.specs.Bits.{stretch, same}
@@ -21,8 +23,13 @@ use Rattle.blocks.specs.declared.block.Block.{Block}
 use Rattle.blocks.specs.declared.marks.Marks.{Marks}
 use Rattle.blocks.specs.Blocks.{blockOf, segmentBytes, blockRefusal}
 use Rattle.blocks.specs.Marking.{allMarks, marked, withMark, marksRefusal}
+use Rattle.blocks.proofs.Rows.{in-block, in-line}
+use Rattle.blocks.specs.declared.assembly.Revisions.{Revisions}
+use Rattle.blocks.specs.declared.assembly.Assembly.{Assembly}
+use Rattle.revisions.specs.Carried.{revisionsIn, foreignRefusal, remembered}
+use Rattle.segments.specs.declared.Added.{Added}
 use Rattle.segments.specs.declared.Added.the-variants as added
-use Rattle.segments.specs.Assembly.{segmentOf, storedOf, placed, marksWith, placedOn, segmentIn, copyRefusal, placeAnswer, placeLeft, lentRefusal, carriedRefusal, CarriedOk, addSegmentRefusal, addSegmentAnswer, addSegmentLeft}
+use Rattle.segments.specs.Assembly.{segmentOf, storedOf, Placeable, differs, differsRefusal, copyRefusal, placeRefusal, marksWith, assemblyWith, placed, placedOn, placeAnswer, blockWith, placeLeft, segmentIn, lentRefusal, carriedRefusal, CarriedOk, addSegmentRefusal, addSegmentAnswer, addSegmentLeft}
 
 -- WHAT IS KNOWN of a line that carries a segment
 pub record Carries (m : Marks) (line : List ℕ) (n given : ℕ) : Type 0 where
@@ -72,50 +79,71 @@ carried-told f m line n given lent r e z s =
 
 -- ---- the call, once the line carries a segment: the answer and the block are those of the segment in its place
 
-kept-same : (k : ℕ) (block : List ℕ) → kept k block block ≡ block
-unfolding kept
-kept-same zero block = refl
-kept-same (suc k) block = refl
-
--- a copy that is refused is stored nowhere
-left-kept : (b : Block) (m : Marks) (line : List ℕ) (s : ℕ) (block : List ℕ) → kept (copyRefusal b m line s block) block (placeLeft b m line s block) ≡ placeLeft b m line s block
-unfolding placeLeft copyRefusal when
-left-kept b m line s block = by (marked m s)
-  where
-    differs : Bool
-    differs = not (same (segmentOf b line) (stretch block (s * segmentBytes b) (segmentBytes b)))
-
-    by : (t : Bool) → kept (when (t && differs) 8) block (cond t block (storedOf b line s block)) ≡ cond t block (storedOf b line s block)
-    by true = kept-same (when differs 8) block
-    by false = kept-none 0 block (storedOf b line s block) refl
-
-module _ (f : ℕ) (m : Marks) (line : List ℕ) (n : ℕ) (block : List ℕ) where
-  pub added-is : carriedRefusal f m line n (length block) ≡ 0
-      → (addSegmentAnswer f m line n block ≡ placeAnswer (blockOf n) m line (segmentIn line) block) × (addSegmentLeft f m line n block ≡ placeLeft (blockOf n) m line (segmentIn line) block)
-  unfolding addSegmentAnswer addSegmentLeft addSegmentRefusal placeAnswer
+module _ (f : ℕ) (a : Assembly) (line : List ℕ) (n : ℕ) (block : List ℕ) where
+  pub added-is : carriedRefusal f (a .marks) line n (length block) ≡ 0
+      → (addSegmentAnswer f a line n block ≡ placeAnswer n a line (segmentIn line) block) × (addSegmentLeft f a line n block ≡ placeLeft n a line (segmentIn line) block)
+  unfolding addSegmentAnswer addSegmentLeft addSegmentRefusal placeAnswer placeLeft
   added-is e =
       let s : ℕ = segmentIn line in
-      let copy : first (carriedRefusal f m line n (length block)) (copyRefusal (blockOf n) m line s block) ≡ copyRefusal (blockOf n) m line s block = first-none _ _ e in (
-        ap (λ (k : ℕ). answered added.Refused k (placedOn m s)) copy,
-        ap (λ (k : ℕ). kept k block (placeLeft (blockOf n) m line s block)) copy ∙ left-kept (blockOf n) m line s block,
+      let rest : ℕ = placeRefusal n a (revisionsIn line) line s block in
+      let none : first (carriedRefusal f (a .marks) line n (length block)) rest ≡ rest = first-none _ _ e in (
+        ap (λ (k : ℕ). answered added.Refused k (placedOn a line s)) none,
+        ap (λ (k : ℕ). kept k block (blockWith (blockOf n) (a .marks) line s block)) none,
       )
 
--- ---- a segment in its place, as the code goes
+-- ---- the bytes of a segment, in the line and in the block
 
-module _ (b : Block) (m : Marks) (line : List ℕ) (s : ℕ) (block : List ℕ) where
+module _ (b : Block) (line : List ℕ) (s : ℕ) (block : List ℕ) where
+  pub fits-block : Placeable b line s block → s * segmentBytes b + segmentBytes b ≤ length block
+  fits-block h = in-block b s (length block) (h .row) (h .small) (h .room)
+
+  pub fits-line : Placeable b line s block → b .first - 1 + segmentBytes b ≤ length line
+  fits-line h = in-line b (length line) (h .row) (h .long)
+
   abbrev pub Compared : Bool → Type 0
   Compared t = same (stretch line (b .first - 1) (segmentBytes b)) (stretch block (s * segmentBytes b) (segmentBytes b)) ≡ t
 
-  pub placed-equal : marked m s ≡ true → Compared true → (placed m s false ≡ placeAnswer b m line s block) × (block ≡ placeLeft b m line s block)
-  unfolding placeAnswer placeLeft copyRefusal marksWith when answered segmentOf
-  placed-equal h e = (rw (h, e), rw h)
+  pub same-bytes : Compared true → 0 ≡ differsRefusal b line s block
+  unfolding differsRefusal differs segmentOf when
+  same-bytes e = rw e refl
 
-  pub placed-differs : marked m s ≡ true → Compared false → (added.Refused 8 ≡ placeAnswer b m line s block) × (block ≡ placeLeft b m line s block)
-  unfolding placeAnswer placeLeft copyRefusal when answered segmentOf
-  placed-differs h e = (rw (h, e), rw h)
+  pub other-bytes : Compared false → 8 ≡ differsRefusal b line s block
+  unfolding differsRefusal differs segmentOf when
+  other-bytes e = rw e refl
 
-  pub placed-new : (m′ : Marks) (block′ : List ℕ) → marked m s ≡ false → m′ ≡ withMark m s
-      → block′ ≡ take (s * segmentBytes b) block ++ stretch line (b .first - 1) (segmentBytes b) ++ drop (s * segmentBytes b + segmentBytes b) block
-      → (placed m′ s true ≡ placeAnswer b m line s block) × (block′ ≡ placeLeft b m line s block)
-  unfolding placeAnswer placeLeft copyRefusal marksWith when answered storedOf segmentOf
-  placed-new m′ block′ h e l = (rw h (ap (λ (x : Marks). placed x s true) e), rw h l)
+-- ---- what refuses a segment by what the assembly holds, as the code goes
+
+module _ (n : ℕ) (a : Assembly) (carried : Revisions) (line : List ℕ) (s : ℕ) (block : List ℕ) (k : ℕ) (foreign : k ≡ foreignRefusal n a carried) where
+  pub refused-stored : (d : ℕ) (b : Block) → marked (a .marks) s ≡ true → d ≡ differsRefusal b line s block → b ≡ blockOf n → (r : ℕ) → r ≡ first k d → r ≡ placeRefusal n a carried line s block
+  unfolding placeRefusal copyRefusal differsRefusal
+  refused-stored d b h e own r told = told ∙ ap₂ first foreign (e ∙ ap (λ (x : Block). when (differs x line s block) 8) own ∙ rw h refl)
+
+  pub refused-new : marked (a .marks) s ≡ false → k ≡ placeRefusal n a carried line s block
+  unfolding placeRefusal copyRefusal when
+  refused-new h = foreign ∙ rw h (sym (first-zero (foreignRefusal n a carried)))
+
+-- ---- a segment in its place, as the code goes
+
+module _ (n : ℕ) (a : Assembly) (line : List ℕ) (s : ℕ) (block : List ℕ) (k : ℕ) (told : k ≡ placeRefusal n a (revisionsIn line) line s block) where
+  abbrev pub Is-placed : Added → List ℕ → Type 0
+  Is-placed r left = (r ≡ placeAnswer n a line s block) × (left ≡ placeLeft n a line s block)
+
+  pub placed-refused : (k ≡ 0 → ⊥) → Is-placed (added.Refused k) block
+  unfolding placeAnswer placeLeft
+  placed-refused some = (given-some added.Refused k _ _ told some, sym (kept-some _ _ _ (λ z. some (told ∙ z))))
+
+  pub placed-again : (r : Revisions) → k ≡ 0 → marked (a .marks) s ≡ true → r ≡ remembered a (revisionsIn line)
+      → Is-placed (placed (record { marks = a .marks; revisions = r }) s false) block
+  unfolding placeAnswer placeLeft assemblyWith marksWith blockWith
+  placed-again r z h e = (
+    given-none added.Refused k _ _ _ told z (rw h (ap (λ (x : Revisions). placed (record { marks = a .marks; revisions = x }) s false) e)),
+    sym (kept-none _ _ _ (sym told ∙ z) ∙ rw h refl),
+  )
+
+  pub placed-new : (r : Revisions) (m : Marks) (left : List ℕ) (b : Block) → k ≡ 0 → marked (a .marks) s ≡ false → r ≡ remembered a (revisionsIn line) → m ≡ withMark (a .marks) s
+      → left ≡ storedOf b line s block → b ≡ blockOf n → Is-placed (placed (record { marks = m; revisions = r }) s true) left
+  unfolding placeAnswer placeLeft assemblyWith marksWith blockWith
+  placed-new r m left b z h e f l own = (
+    given-none added.Refused k _ _ _ told z (rw h (ap₂ (λ (x : Marks) (y : Revisions). placed (record { marks = x; revisions = y }) s true) f e)),
+    l ∙ ap (λ (x : Block). storedOf x line s block) own ∙ sym (kept-none _ _ _ (sym told ∙ z) ∙ rw h refl),
+  )

@@ -1,6 +1,6 @@
 -- A segment of a block, out of a line: a first copy is stored and marked, an equal later copy changes nothing, and a
--- different one is refused. Refusals stand in the order in which they are tested. Assumes nothing.
-use Prim.Native.Nat.{ℕ, _+_, _*_, _-_}
+-- different one is refused, as is one of a foreign revision. Refusals stand in the order in which they are tested. Assumes nothing.
+use Prim.Native.Nat.{ℕ, _+_, _*_, _-_, _≤_}
 use mathlib.Core.Bool.{Bool, false, not, _&&_, cond}
 use mathlib.Core.List.{List, _++_}
 use mathlib.Core.Path.{_≡_}
@@ -14,8 +14,11 @@ use Rattle.document.specs.Place.{docByte}
 use Rattle.document.specs.Segments.{subNumber, subValues, subCommutationRefusal}
 use Rattle.blocks.specs.declared.block.Block.{Block}
 use Rattle.blocks.specs.declared.marks.Marks.{Marks}
-use Rattle.blocks.specs.Blocks.{blockOf, segmentBytes, blockRefusal}
+use Rattle.blocks.specs.declared.assembly.Revisions.{Revisions}
+use Rattle.blocks.specs.declared.assembly.Assembly.{Assembly}
+use Rattle.blocks.specs.Blocks.{blockOf, segmentBytes, Sound, blockRefusal}
 use Rattle.blocks.specs.Marking.{marked, withMark, marksRefusal}
+use Rattle.revisions.specs.Carried.{revisionsIn, foreignRefusal, remembered}
 use Rattle.segments.specs.declared.Added.{Added}
 use Rattle.segments.specs.declared.Added.the-variants.{Is, Refused}
 
@@ -30,25 +33,51 @@ segmentOf b line = stretch line (b .first - 1) (segmentBytes b)
 unfoldable pub storedOf : Block → List ℕ → ℕ → List ℕ → List ℕ
 storedOf b line s block = take (s * segmentBytes b) block ++ segmentOf b line ++ drop (s * segmentBytes b + segmentBytes b) block
 
-abbrev pub placed : Marks → ℕ → Bool → Added
-placed m s new = Is (record { marks = m; segment = s; «first_copy» = new })
+-- what the code asks before it looks at the bytes of a segment
+pub record Placeable (b : Block) (line : List ℕ) (s : ℕ) (block : List ℕ) : Type 0 where
+  pub row : Sound b
+  pub small : s ≤ 24
+  pub long : lineBytes ≤ length line
+  pub room : b .size ≤ length block
+
+-- the bytes that a line has for segment s are not the stored ones
+unfoldable pub differs : Block → List ℕ → ℕ → List ℕ → Bool
+differs b line s block = not (same (segmentOf b line) (stretch block (s * segmentBytes b) (segmentBytes b)))
+
+unfoldable pub differsRefusal : Block → List ℕ → ℕ → List ℕ → ℕ
+differsRefusal b line s block = when (differs b line s block) 8
+
+-- 8: the segment is marked, and its bytes differ from the stored ones
+unfoldable pub copyRefusal : Block → Marks → List ℕ → ℕ → List ℕ → ℕ
+copyRefusal b m line s block = when (marked m s && differs b line s block) 8
+
+-- 14, 8: by what the assembly holds
+unfoldable pub placeRefusal : ℕ → Assembly → Revisions → List ℕ → ℕ → List ℕ → ℕ
+placeRefusal n a carried line s block = first (foreignRefusal n a carried) (copyRefusal (blockOf n) (a .marks) line s block)
 
 -- the marks with segment s: as they were where it is marked already
 unfoldable pub marksWith : Marks → ℕ → Marks
 marksWith m s = cond (marked m s) m (withMark m s)
 
-abbrev pub placedOn : Marks → ℕ → Added
-placedOn m s = placed (marksWith m s) s (not (marked m s))
+-- the record once segment s of a line is taken
+unfoldable pub assemblyWith : Assembly → List ℕ → ℕ → Assembly
+assemblyWith a line s = record { marks = marksWith (a .marks) s; revisions = remembered a (revisionsIn line) }
 
--- 8: the segment is marked, and its bytes differ from the stored ones
-unfoldable pub copyRefusal : Block → Marks → List ℕ → ℕ → List ℕ → ℕ
-copyRefusal b m line s block = when (marked m s && not (same (segmentOf b line) (stretch block (s * segmentBytes b) (segmentBytes b)))) 8
+abbrev pub placed : Assembly → ℕ → Bool → Added
+placed a s new = Is (record { assembly = a; segment = s; «first_copy» = new })
 
-unfoldable pub placeAnswer : Block → Marks → List ℕ → ℕ → List ℕ → Added
-placeAnswer b m line s block = answered Refused (copyRefusal b m line s block) (placedOn m s)
+abbrev pub placedOn : Assembly → List ℕ → ℕ → Added
+placedOn a line s = placed (assemblyWith a line s) s (not (marked (a .marks) s))
 
-unfoldable pub placeLeft : Block → Marks → List ℕ → ℕ → List ℕ → List ℕ
-placeLeft b m line s block = cond (marked m s) block (storedOf b line s block)
+unfoldable pub placeAnswer : ℕ → Assembly → List ℕ → ℕ → List ℕ → Added
+placeAnswer n a line s block = answered Refused (placeRefusal n a (revisionsIn line) line s block) (placedOn a line s)
+
+-- the block once segment s of a line is taken
+unfoldable pub blockWith : Block → Marks → List ℕ → ℕ → List ℕ → List ℕ
+blockWith b m line s block = cond (marked m s) block (storedOf b line s block)
+
+unfoldable pub placeLeft : ℕ → Assembly → List ℕ → ℕ → List ℕ → List ℕ
+placeLeft n a line s block = kept (placeRefusal n a (revisionsIn line) line s block) block (blockWith (blockOf n) (a .marks) line s block)
 
 -- ---- the call
 
@@ -73,11 +102,11 @@ CarriedOk f m line n given r =
     × (subValues r ≡ kept (carriedRefusal f m line n given) (0, 0) (segmentIn line, docByte line 196))
     × Genuine sub.Refused r
 
--- 1, 12, 4, 2, 5, 6, 7, 8
-unfoldable pub addSegmentRefusal : ℕ → Marks → List ℕ → ℕ → List ℕ → ℕ
-addSegmentRefusal f m line n block = first (carriedRefusal f m line n (length block)) (copyRefusal (blockOf n) m line (segmentIn line) block)
+-- 1, 12, 4, 2, 5, 6, 7, 14, 8
+unfoldable pub addSegmentRefusal : ℕ → Assembly → List ℕ → ℕ → List ℕ → ℕ
+addSegmentRefusal f a line n block = first (carriedRefusal f (a .marks) line n (length block)) (placeRefusal n a (revisionsIn line) line (segmentIn line) block)
 
--- the paper's number and values for each answer, and the marks of the assembly after it
+-- the paper's number and values for each answer, and the record of the assembly after it
 abbrev pub addedNumber : Added → ℕ
 addedNumber (Is p) = 0
 addedNumber (Refused k) = k
@@ -90,23 +119,23 @@ abbrev pub addedNew : Added → Bool
 addedNew (Is p) = p .«first_copy»
 addedNew (Refused k) = false
 
-abbrev pub marksAfter : Marks → Added → Marks
-marksAfter m (Is p) = p .marks
-marksAfter m (Refused k) = m
+abbrev pub assemblyAfter : Assembly → Added → Assembly
+assemblyAfter a (Is p) = p .assembly
+assemblyAfter a (Refused k) = a
 
-abbrev pub addedValues : Marks → Added → ℕ × Bool × Marks
-addedValues m r = (addedSegment r, addedNew r, marksAfter m r)
+abbrev pub addedValues : Assembly → Added → ℕ × Bool × Assembly
+addedValues a r = (addedSegment r, addedNew r, assemblyAfter a r)
 
--- THE CONTRACT of `add_segment`: the number; and the segment, whether it is the first copy, and the marks
-abbrev pub AddSegmentOk : ℕ → Marks → List ℕ → ℕ → List ℕ → Added → Type 0
-AddSegmentOk f m line n block r =
-    (addedNumber r ≡ addSegmentRefusal f m line n block)
-    × (addedValues m r ≡ kept (addSegmentRefusal f m line n block) (0, false, m) (segmentIn line, not (marked m (segmentIn line)), marksWith m (segmentIn line)))
+-- THE CONTRACT of `add_segment`: the number; and the segment, whether it is the first copy, and the record
+abbrev pub AddSegmentOk : ℕ → Assembly → List ℕ → ℕ → List ℕ → Added → Type 0
+AddSegmentOk f a line n block r =
+    (addedNumber r ≡ addSegmentRefusal f a line n block)
+    × (addedValues a r ≡ kept (addSegmentRefusal f a line n block) (0, false, a) (segmentIn line, not (marked (a .marks) (segmentIn line)), assemblyWith a line (segmentIn line)))
     × Genuine Refused r
 
-unfoldable pub addSegmentAnswer : ℕ → Marks → List ℕ → ℕ → List ℕ → Added
-addSegmentAnswer f m line n block = answered Refused (addSegmentRefusal f m line n block) (placedOn m (segmentIn line))
+unfoldable pub addSegmentAnswer : ℕ → Assembly → List ℕ → ℕ → List ℕ → Added
+addSegmentAnswer f a line n block = answered Refused (addSegmentRefusal f a line n block) (placedOn a line (segmentIn line))
 
 -- THE BLOCK BUFFER after it
-unfoldable pub addSegmentLeft : ℕ → Marks → List ℕ → ℕ → List ℕ → List ℕ
-addSegmentLeft f m line n block = kept (addSegmentRefusal f m line n block) block (placeLeft (blockOf n) m line (segmentIn line) block)
+unfoldable pub addSegmentLeft : ℕ → Assembly → List ℕ → ℕ → List ℕ → List ℕ
+addSegmentLeft f a line n block = kept (addSegmentRefusal f a line n block) block (blockWith (blockOf n) (a .marks) line (segmentIn line) block)

@@ -1,16 +1,15 @@
 // The segments of a block, as the lines bring them, in any order and each as often as it comes, put into an assembly.
 //
 // The contracts cite `specs/Assembly.antt`: `AddSegmentOk` gives the number of the refusal and the values of the answer,
-// `addSegmentLeft` every lent byte, for every input; refusals stand in the paper's order. That a finished block is its segments, whatever order they came in, is in
-// `assemblies`.
+// `addSegmentLeft` every lent byte, for every input; refusals stand in the paper's order. That a finished block is its segments,
+// whatever order they came in, and of one revision of the tables, is in `assemblies`.
 //
 // No public function has a `requires`. A buffer may be longer than its block.
 ghost use mathlib.Core.Path.{_≡_};
-ghost use Prim.Native.Nat.{_≤_};
-ghost use lib.ListN.{length};
-ghost use Rattle.formats.specs.Formats.{lineBytes};
-ghost use Rattle.blocks.specs.Blocks.{Sound};
-ghost use Rattle.segments.specs.Assembly.{placeAnswer, placeLeft, lentRefusal, CarriedOk, AddSegmentOk, addSegmentLeft};
+ghost use Rattle.blocks.specs.Blocks.{blockOf};
+ghost use Rattle.segments.specs.Assembly.{Placeable, differsRefusal, storedOf, placeRefusal, placeAnswer, placeLeft, lentRefusal, CarriedOk, AddSegmentOk, addSegmentLeft};
+use blocks::assembly::Assembly;
+use blocks::assembly::Revisions;
 use blocks::block::Block;
 use blocks::block::SEGMENTS;
 use blocks::block::block_of;
@@ -27,44 +26,100 @@ use octets::copy;
 use octets::same;
 use refusals::first;
 use refusals::short;
+use revisions::foreign_refusal;
+use revisions::remembered;
+use revisions::revisions_in;
 
-// What became of a line: the marks of the assembly from now on, the segment that the line carried, and whether it was
+// What became of a line: the record of the assembly from now on, the segment that the line carried, and whether it was
 // the first copy, which was stored, or a later one equal to it.
 pub struct Placed {
-    pub marks: Marks,
+    pub assembly: Assembly,
     pub segment: u8,
     pub first_copy: bool,
 }
 
-// The answer to a line. Refused, the assembly goes on with the marks that it had.
+// The answer to a line. Refused, the assembly goes on with the record that it had.
 pub enum Added {
     Is(Placed),
     Refused(u8),
 }
 
-// Inner. A segment in its place: stored and marked where it is new; where it is marked, 8 unless its bytes are the stored
-// ones.
-fn place(marks: Marks, line: &[u8], b: Block, segment: u8, block: &mut [u8]) -> Added
-    requires { ⌜ Sound b × (segment ≤ 24) × (lineBytes ≤ length (now line)) × (b .size ≤ length (now block)) ⌝ }
-    ensures { λ r. ⌜ (r ≡ placeAnswer b marks (now (line .entry)) segment (now (block .entry))) × (now (block .exit) ≡ placeLeft b marks (now (line .entry)) segment (now (block .entry))) ⌝ }
+// Inner. 8 where the bytes that a line has for a segment are not the stored ones; else 0.
+fn differs_refusal(line: &[u8], b: Block, segment: u8, block: &[u8]) -> u8
+    requires { ⌜ Placeable b (now line) segment (now block) ⌝ }
+    ensures { λ r. ⌜ r ≡ differsRefusal b (now (line .entry)) segment (now (block .entry)) ⌝ }
 {
     let n = b.size / SEGMENTS;
     let from = b.first - 1;
     let s = segment as usize;
     let at = s * n;
-    if is_marked(marks, segment) {
-        if same(line, from, block, at, n) {
-            return Added::Is(Placed {
-                marks: marks,
-                segment: segment,
-                first_copy: false,
-            });
-        }
-        return Added::Refused(refusals::SEGMENT);
+    if same(line, from, block, at, n) {
+        return 0;
     }
-    copy(line, from, n, block, at);
+    refusals::SEGMENT
+}
+
+// Inner. The bytes that a line has for a segment, stored in its place.
+fn store(line: &[u8], b: Block, segment: u8, block: &mut [u8])
+    requires { ⌜ Placeable b (now line) segment (now block) ⌝ }
+    ensures { λ _. ⌜ now (block .exit) ≡ storedOf b (now (line .entry)) segment (now (block .entry)) ⌝ }
+{
+    let n = b.size / SEGMENTS;
+    let from = b.first - 1;
+    let s = segment as usize;
+    let to = s * n;
+    copy(line, from, n, block, to);
+}
+
+// Inner. What refuses a segment by what the assembly holds: 14 where the line is of a foreign revision, also where the segment is
+// stored already; then 8 where it is stored and differs; else 0.
+fn place_refusal(
+    number: u8,
+    assembly: Assembly,
+    carried: Revisions,
+    line: &[u8],
+    segment: u8,
+    block: &[u8],
+) -> u8
+    requires { ⌜ Placeable (blockOf number) (now line) segment (now block) ⌝ }
+    ensures { λ r. ⌜ r ≡ placeRefusal number assembly carried (now (line .entry)) segment (now (block .entry)) ⌝ }
+{
+    let foreign = foreign_refusal(number, assembly, carried);
+    if !is_marked(assembly.marks, segment) {
+        return foreign;
+    }
+    let differs = differs_refusal(line, block_of(number), segment, block);
+    first(foreign, differs)
+}
+
+// Inner. A segment in its place: stored and marked where it is new, and the revisions remembered.
+fn place(number: u8, assembly: Assembly, line: &[u8], segment: u8, block: &mut [u8]) -> Added
+    requires { ⌜ Placeable (blockOf number) (now line) segment (now block) ⌝ }
+    ensures { λ r. ⌜ (r ≡ placeAnswer number assembly (now (line .entry)) segment (now (block .entry))) × (now (block .exit) ≡ placeLeft number assembly (now (line .entry)) segment (now (block .entry))) ⌝ }
+{
+    let carried = revisions_in(line);
+    let refused = place_refusal(number, assembly, carried, line, segment, block);
+    if refused != 0 {
+        return Added::Refused(refused);
+    }
+    let revisions = remembered(assembly, carried);
+    let marks = assembly.marks;
+    if is_marked(marks, segment) {
+        return Added::Is(Placed {
+            assembly: Assembly {
+                marks: marks,
+                revisions: revisions,
+            },
+            segment: segment,
+            first_copy: false,
+        });
+    }
+    store(line, block_of(number), segment, block);
     Added::Is(Placed {
-        marks: with_mark(marks, segment),
+        assembly: Assembly {
+            marks: with_mark(marks, segment),
+            revisions: revisions,
+        },
         segment: segment,
         first_copy: true,
     })
@@ -93,20 +148,21 @@ fn carried(format: u8, marks: Marks, line: &[u8], number: u8, given: usize) -> S
     sub_commutation(format, line)
 }
 
-// The segment of a block that a line carries, added to the assembly of marks and block buffer. A first copy is stored at
-// segment times a 25th of the size, and marked; an equal later copy changes nothing. Refused with 1, 12, 4, 2, 5, 6, 7, 8,
-// and then the block stays as it was. Bytes behind the block's size are kept.
-pub fn add_segment(format: u8, marks: Marks, line: &[u8], number: u8, block: &mut [u8]) -> Added
-    ensures { λ r. ⌜ AddSegmentOk format marks (now (line .entry)) number (now (block .entry)) r × (now (block .exit) ≡ addSegmentLeft format marks (now (line .entry)) number (now (block .entry))) ⌝ }
+// The segment of a block that a line carries, added to the assembly of record and block buffer. A first copy is stored at
+// segment times a 25th of the size, and marked; an equal later copy changes nothing. The first segment taken gives the record
+// its revisions, and from then on a line of another one is refused with 14, until a new assembly is begun. Refused with 1, 12, 4,
+// 2, 5, 6, 7, 14, 8, and then the block stays as it was. Bytes behind the block's size are kept.
+pub fn add_segment(
+    format: u8,
+    assembly: Assembly,
+    line: &[u8],
+    number: u8,
+    block: &mut [u8],
+) -> Added
+    ensures { λ r. ⌜ AddSegmentOk format assembly (now (line .entry)) number (now (block .entry)) r × (now (block .exit) ≡ addSegmentLeft format assembly (now (line .entry)) number (now (block .entry))) ⌝ }
 {
-    match carried(format, marks, line, number, block.len()) {
-        SubCommutation::Is { segment, repeat: _ } => place(
-            marks,
-            line,
-            block_of(number),
-            segment,
-            block,
-        ),
+    match carried(format, assembly.marks, line, number, block.len()) {
+        SubCommutation::Is { segment, repeat: _ } => place(number, assembly, line, segment, block),
         SubCommutation::Refused(k) => Added::Refused(k),
     }
 }

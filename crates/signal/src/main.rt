@@ -1,5 +1,5 @@
-// signal [-2] [N [FORMAT [W]]]: a training recording on standard output, for a class that plays when the card is away. USAGE says
-// what its words are; `pattern` says what stands in a line, `wrong` which bits of its tail come wrong.
+// signal [-2] [N [FORMAT [W [T]]]]: a training recording on standard output, for a class that plays when the card is away.
+// USAGE says what its words are; `pattern` says what stands in a line, `wrong` which bits of its tail come wrong.
 //
 // The program only makes bytes and hands them on: what a sector and a line on the wire are is proved of `sector_writer` and
 // `writer`. Of its own functions it is proved that they are safe and end.
@@ -12,10 +12,11 @@ use writer::Written;
 mod pattern;
 mod wrong;
 
-const USAGE: [u8; 378] = *b"usage: signal [-2] [N [FORMAT [W]]]
+const USAGE: [u8; 479] = *b"usage: signal [-2] [N [FORMAT [W [T]]]]
 Writes a training recording of N lines, 0 to 1000000, to standard output; 10 where N is left out.
   FORMAT   1 is S-VISSR 2.0, as where it is left out, 2 is HiRID
   W        so many bits, 0 to 64, are wrong in each line's tail; 0 where it is left out
+  T        new tables come with line T, 1 to 1000000; with 0, as where it is left out, none come
   -2       the same as FORMAT 2
 Standard error says `total N` where all of it was written.
 ";
@@ -28,13 +29,13 @@ fn send(wire: &[u8], bytes: usize) -> bool {
     io::write_all(STDOUT_FILENO, &wire[..bytes])
 }
 
-// Line k of the pattern, made and sent, with w wrong bits.
-fn one(format: u8, k: u64, w: u64) -> bool
+// Line k of the pattern, made and sent, with w wrong bits and new tables from line t on.
+fn one(format: u8, k: u64, w: u64, t: u64) -> bool
     requires { ⌜ (k < 1000000) × (w ≤ 64) ⌝ }
 {
     let mut line = [0u8; 44356];
     let mut wire = [0u8; 49500];
-    pattern::fill(format, k, &mut line);
+    pattern::fill(format, k, t, &mut line);
     match writer::write_line(format, &line, &mut wire) {
         Written::Refused(_) => false,
         Written::Put(bytes) => {
@@ -45,12 +46,12 @@ fn one(format: u8, k: u64, w: u64) -> bool
 }
 
 // n lines, up to the first that cannot be written. The recording has no room for a last line of text: it is told.
-fn play(format: u8, n: u64, w: u64)
+fn play(format: u8, n: u64, w: u64, t: u64)
     requires { ⌜ (n ≤ 1000000) × (w ≤ 64) ⌝ }
 {
     let mut k: u64 = 0;
     while k < n {
-        if !one(format, k, w) {
+        if !one(format, k, w, t) {
             os::fail(b"standard output");
             return;
         }
@@ -68,7 +69,23 @@ fn format_of(asked: Asked) -> u64 {
     format
 }
 
-// n lines in a format, with the wrong bits that the words ask for.
+// n lines in a format with w wrong bits, and the new tables that the words ask for.
+fn renewed(format: u8, n: u64, w: u64, asked: Asked)
+    requires { ⌜ (n ≤ 1000000) × (w ≤ 64) ⌝ }
+{
+    let t = command::number_at(asked.fourth, 0);
+    if words::MOST < t {
+        command::refuse_word(
+            b"not the line of new tables, 0 to 1000000: ",
+            asked.fourth,
+            &USAGE,
+        );
+        return;
+    }
+    play(format, n, w, t);
+}
+
+// n lines in a format, with the wrong bits and the new tables that the words ask for.
 fn damaged(format: u8, n: u64, asked: Asked)
     requires { ⌜ n ≤ 1000000 ⌝ }
 {
@@ -81,12 +98,12 @@ fn damaged(format: u8, n: u64, asked: Asked)
         );
         return;
     }
-    play(format, n, w);
+    renewed(format, n, w, asked);
 }
 
 fn main() {
     let asked = command::asked_for(Takes {
-        names: 3,
+        names: 4,
         setting: false,
     });
     if !command::goes_on(asked, &USAGE) {

@@ -37,7 +37,9 @@ named-any f a p m =
     (either f (eqb (a .names) 0) _ _ ∙
     ap (cond (eqb (a .names) 0) _)
     (either f (eqb (a .names) 1) _ _ ∙
-    ap (cond (eqb (a .names) 1) _) (late-any f a p (eqb (a .names) 2) _)))
+    ap (cond (eqb (a .names) 1) _)
+    (either f (eqb (a .names) 2) _ _ ∙
+    ap (cond (eqb (a .names) 2) _) (late-any f a p (eqb (a .names) 3) _))))
 
 abbrev hirid : Touch
 hirid = record { format = λ x. 2; help = λ b. b; awaits = λ b. b; setting = λ x. x }
@@ -91,25 +93,17 @@ Other Number = ⊥
 Other Name = Unit {0}
 Other Unknown = Unit {0}
 
-kept : (n : ℕ) (b : Bool) (x y : Asked) → x .setting ≡ n → y .setting ≡ n → cond b x y .setting ≡ n
-kept n true x y e f = e
-kept n false x y e f = f
-
-unserved-kept : (a : Asked) (p : ℕ) → unserved a p .setting ≡ a .setting
-unserved-kept a p = kept (a .setting) (eqb (a .wrong) 0) _ a refl refl
+-- a setting put in; the one that stands there already changes nothing
+abbrev settled : ℕ → Touch
+settled n = record { format = λ x. x; help = λ b. b; awaits = λ b. b; setting = λ x. n }
 
 other-kept : (w : Word) → Other w → (a : Asked) (q : ℕ) (t : Takes) → heard a q w t .setting ≡ a .setting
 other-kept Hirid k a q t = refl
 other-kept Help k a q t = refl
 other-kept Setting k a q t = absurd k
 other-kept Number k a q t = absurd k
-other-kept Name k a q t =
-    let late = unserved-kept a q in
-    kept (a .setting) (ltb (a .names) (t .names)) _ _
-    (kept (a .setting) (eqb (a .names) 0) _ _ refl
-    (kept (a .setting) (eqb (a .names) 1) _ _ refl (kept (a .setting) (eqb (a .names) 2) _ _ refl late)))
-    late
-other-kept Unknown k a q t = unserved-kept a q
+other-kept Name k a q t = sym (ap (λ (x : Asked). x .setting) (named-any (settled (a .setting)) a q (t .names)))
+other-kept Unknown k a q t = sym (ap (λ (x : Asked). x .setting) (unserved-any (settled (a .setting)) a q))
 
 other-any : (w : Word) → Other w → (a : Asked) (r q : ℕ) (t : Takes) → touched (numbered r) (heard a q w t) ≡ heard (touched (numbered r) a) q w t
 other-any Hirid k a r q t = refl

@@ -29,7 +29,18 @@ settingOf text = cond (eqb (length text) 1 && (ltb 47 (getD text 0 0) && ltb (ge
 
 abbrev pub nothingAsked : Asked
 nothingAsked =
-    record { format = 1; help = false; awaits = false; setting = 0; names = 0; first = 0; second = 0; third = 0; wrong = 0 }
+    record {
+      format = 1;
+      help = false;
+      awaits = false;
+      setting = 0;
+      names = 0;
+      first = 0;
+      second = 0;
+      third = 0;
+      fourth = 0;
+      wrong = 0;
+    }
 
 -- the same with other options
 abbrev pub withOptions : Asked → ℕ → Bool → Bool → ℕ → Asked
@@ -43,12 +54,13 @@ withOptions a format help awaits setting =
       first = a .first;
       second = a .second;
       third = a .third;
+      fourth = a .fourth;
       wrong = a .wrong;
     }
 
 -- the same with other names
-abbrev pub withNames : Asked → ℕ → ℕ → ℕ → ℕ → Asked
-withNames a names first second third =
+abbrev pub withNames : Asked → ℕ → ℕ → ℕ → ℕ → ℕ → Asked
+withNames a names first second third fourth =
     record {
       format = a .format;
       help = a .help;
@@ -58,6 +70,7 @@ withNames a names first second third =
       first = first;
       second = second;
       third = third;
+      fourth = fourth;
       wrong = a .wrong;
     }
 
@@ -74,18 +87,20 @@ unserved a place =
       first = a .first;
       second = a .second;
       third = a .third;
+      fourth = a .fourth;
       wrong = place;
     })
     a
 
--- a name at a place, of at most so many: the first, the second, the third, or one too many
+-- a name at a place, of at most so many: the first, the second, the third, the fourth, or one too many
 abbrev pub named : Asked → ℕ → ℕ → Asked
 named a place most =
     cond (ltb (a .names) most)
-    (cond (eqb (a .names) 0) (withNames a 1 place (a .second) (a .third))
-    (cond (eqb (a .names) 1) (withNames a 2 (a .first) place (a .third))
-    (cond (eqb (a .names) 2) (withNames a 3 (a .first) (a .second) place)
-    (unserved a place))))
+    (cond (eqb (a .names) 0) (withNames a 1 place (a .second) (a .third) (a .fourth))
+    (cond (eqb (a .names) 1) (withNames a 2 (a .first) place (a .third) (a .fourth))
+    (cond (eqb (a .names) 2) (withNames a 3 (a .first) (a .second) place (a .fourth))
+    (cond (eqb (a .names) 3) (withNames a 4 (a .first) (a .second) (a .third) place)
+    (unserved a place)))))
     (unserved a place)
 
 -- `-s` at a place, which awaits its number: served once, by a program that takes it

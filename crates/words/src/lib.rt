@@ -24,7 +24,7 @@ pub struct Takes {
 }
 
 // What the words ask for: the format, whether it is help, whether -s awaits its number and the place of that number (of -s while
-// it awaits), how many names there are and the places of the first three, and the place of the first word that is not served.
+// it awaits), how many names there are and the places of the first four, and the place of the first word that is not served.
 // Places count from 1, and 0 is none: the program's own name stands there.
 pub struct Asked {
     pub format: u8,
@@ -35,6 +35,7 @@ pub struct Asked {
     pub first: usize,
     pub second: usize,
     pub third: usize,
+    pub fourth: usize,
     pub wrong: usize,
 }
 
@@ -51,6 +52,7 @@ pub fn nothing() -> Asked
         first: 0,
         second: 0,
         third: 0,
+        fourth: 0,
         wrong: 0,
     }
 }
@@ -131,6 +133,7 @@ pub fn unserved(a: Asked, place: usize) -> Asked
         first: a.first,
         second: a.second,
         third: a.third,
+        fourth: a.fourth,
         wrong: place,
     }
 }
@@ -148,13 +151,21 @@ fn with_options(a: Asked, format: u8, help: bool, awaits: bool, setting: usize) 
         first: a.first,
         second: a.second,
         third: a.third,
+        fourth: a.fourth,
         wrong: a.wrong,
     }
 }
 
 // The same with other names.
-fn with_names(a: Asked, names: usize, first: usize, second: usize, third: usize) -> Asked
-    ensures { λ r. ⌜ r ≡ withNames a names first second third ⌝ }
+fn with_names(
+    a: Asked,
+    names: usize,
+    first: usize,
+    second: usize,
+    third: usize,
+    fourth: usize,
+) -> Asked
+    ensures { λ r. ⌜ r ≡ withNames a names first second third fourth ⌝ }
 {
     Asked {
         format: a.format,
@@ -165,11 +176,12 @@ fn with_names(a: Asked, names: usize, first: usize, second: usize, third: usize)
         first: first,
         second: second,
         third: third,
+        fourth: fourth,
         wrong: a.wrong,
     }
 }
 
-// A name at a place, of at most so many: the first, the second, the third, or one too many.
+// A name at a place, of at most so many: the first, the second, the third, the fourth, or one too many.
 fn named(a: Asked, place: usize, most: usize) -> Asked
     ensures { λ r. ⌜ r ≡ Words·named a place most ⌝ }
 {
@@ -178,13 +190,16 @@ fn named(a: Asked, place: usize, most: usize) -> Asked
         return unserved(a, place);
     }
     if n == 0 {
-        return with_names(a, 1, place, a.second, a.third);
+        return with_names(a, 1, place, a.second, a.third, a.fourth);
     }
     if n == 1 {
-        return with_names(a, 2, a.first, place, a.third);
+        return with_names(a, 2, a.first, place, a.third, a.fourth);
     }
     if n == 2 {
-        return with_names(a, 3, a.first, a.second, place);
+        return with_names(a, 3, a.first, a.second, place, a.fourth);
+    }
+    if n == 3 {
+        return with_names(a, 4, a.first, a.second, a.third, place);
     }
     unserved(a, place)
 }

@@ -13,9 +13,22 @@
 //! "The orbital elements (orbit block bytes 157-198, seven R*6 numbers, m 8
 //! but 10 for eccentricity) are one record of f64 values."
 //!
-//! An assembly is two things the caller keeps: the marks, a number whose bit s
-//! (value 2^s) says that segment s is stored, and the block buffer. It starts
-//! with marks 0 and any buffer. Blocks are numbered 1 to 5 as listed.
+//! Document 02, T-02: "An assembly now remembers the calibration table ID
+//! (sector bytes 28-29) and the MANAM revision (30-31) of its first segment. A
+//! segment with another calibration ID is refused for the calibration blocks,
+//! one with another MANAM revision for MANAM; mapping and orbit are as before. A
+//! finished calibration or MANAM block's answer now says which revision it
+//! holds, so every user of an entry gets it too. Refusals: 14 for a foreign
+//! revision, tested before 8."
+//!
+//! An assembly is two things the caller keeps: the record [`Assembly`] and the
+//! block buffer. It starts with a record of zeros and any buffer. Blocks are
+//! numbered 1 to 5 as listed.
+//!
+//! Both numbers are remembered for every block; which of them is compared goes
+//! by the block. The first segment is the first that is taken: a refused one is
+//! none. A later copy, equal or not, is a segment too, so it is refused with 14
+//! where its line has another number.
 
 use crate::document;
 use crate::format::{format, LINE_BYTES};
@@ -81,9 +94,35 @@ pub fn block(format_number: usize, number: usize) -> Result<&'static Block, Refu
     }
 }
 
-/// "a segment mark above 24"
-fn test_marks(marks: u32) -> Result<(), Refusal> {
-    refuse_if(marks & !ALL_MARKS != 0, refusal::STATE)
+/// The record of an assembly. The default is a fresh one.
+#[derive(Clone, Copy, Debug, Default, PartialEq, Eq)]
+pub struct Assembly {
+    /// Bit s (value 2^s) says that segment s is stored.
+    pub marks: u32,
+    /// The calibration table ID of the line that brought the first segment.
+    pub calibration: u16,
+    /// The MANAM revision of that line.
+    pub manam: u16,
+}
+
+/// "a segment mark above 24". The two numbers make no record impossible.
+fn test_marks(assembly: Assembly) -> Result<(), Refusal> {
+    refuse_if(assembly.marks & !ALL_MARKS != 0, refusal::STATE)
+}
+
+/// An I*2 of the sector DOC by its place. DOC starts with the line, so its byte
+/// 1 is the line's first byte.
+fn two_bytes(line: &[u8], place: usize) -> Result<u16, Refusal> {
+    Ok(numbers::read_i(from_place(line, place), 2)? as u16)
+}
+
+/// Which of the two numbers a block goes by; mapping and orbit go by none.
+fn by_block(number: usize, calibration: u16, manam: u16) -> Option<u16> {
+    match number {
+        MANAM => Some(manam),
+        CALIBRATION_1 | CALIBRATION_2 => Some(calibration),
+        _ => None,
+    }
 }
 
 /// What a line added to an assembly.
@@ -94,32 +133,46 @@ pub struct Added {
     pub first_copy: bool,
 }
 
-/// Adds the segment of a line to an assembly. Refusals 1, 12, 4, 2, 5, 6, 7, 8.
+/// Adds the segment of a line to an assembly. Refusals 1, 12, 4, 2, 5, 6, 7,
+/// 14, 8.
 pub fn add_segment(
     format_number: usize,
     line: &[u8],
     block_number: usize,
-    marks: &mut u32,
+    assembly: &mut Assembly,
     buffer: &mut [u8],
 ) -> Result<Added, Refusal> {
     format(format_number)?;
-    test_marks(*marks)?;
+    test_marks(*assembly)?;
     let block = block(format_number, block_number)?;
     refuse_if(line.len() < LINE_BYTES, refusal::SHORT_INPUT)?;
     refuse_if(buffer.len() < block.size, refusal::SHORT_INPUT)?;
     sectors::accepted(format_number, line, 1)?;
     let segment = document::sub_commutation(format_number, line)?.segment;
 
+    // Without a segment the record's numbers are nobody's: nothing is compared,
+    // and this line's take their place.
+    let calibration = two_bytes(line, 28)?;
+    let manam = two_bytes(line, 30)?;
+    let fresh = assembly.marks == 0;
+    let foreign = by_block(block_number, calibration, manam)
+        != by_block(block_number, assembly.calibration, assembly.manam);
+    refuse_if(!fresh && foreign, refusal::REVISION)?;
+
     let sent = &line[block.first - 1..block.last];
     let start = segment * block.segment_bytes();
     let stored = &mut buffer[start..start + block.segment_bytes()];
     let mark = 1 << segment;
-    let first_copy = *marks & mark == 0;
+    let first_copy = assembly.marks & mark == 0;
     refuse_if(!first_copy && stored != sent, refusal::SEGMENT)?;
 
+    if fresh {
+        assembly.calibration = calibration;
+        assembly.manam = manam;
+    }
     if first_copy {
         stored.copy_from_slice(sent);
-        *marks |= mark;
+        assembly.marks |= mark;
     }
     Ok(Added {
         segment,
@@ -138,31 +191,49 @@ pub struct GridPoint {
     pub longitude: i32,
 }
 
-/// The bytes of a block from a place on, counted from 1.
+/// The bytes of a block or a sector from a place on, counted from 1.
 pub fn from_place(buffer: &[u8], place: usize) -> &[u8] {
     &buffer[place - 1..]
 }
 
 /// Tests 2, then 9: the last tests of every entry.
-fn test_entry(marks: u32, buffer: &[u8], block: &Block) -> Result<(), Refusal> {
+fn test_entry(assembly: Assembly, buffer: &[u8], block: &Block) -> Result<(), Refusal> {
     refuse_if(buffer.len() < block.size, refusal::SHORT_INPUT)?;
-    refuse_if(marks != ALL_MARKS, refusal::INCOMPLETE)
+    refuse_if(assembly.marks != ALL_MARKS, refusal::INCOMPLETE)
+}
+
+/// "which revision it holds": of a finished MANAM block its revision, of a
+/// finished calibration block its table ID. 4 also for mapping and orbit, which
+/// hold none. Refusals 1, 12, 4, 2, 9.
+pub fn revision(
+    format_number: usize,
+    assembly: Assembly,
+    block_number: usize,
+    buffer: &[u8],
+) -> Result<u16, Refusal> {
+    format(format_number)?;
+    test_marks(assembly)?;
+    let block = block(format_number, block_number)?;
+    let held = by_block(block_number, assembly.calibration, assembly.manam);
+    let revision = held.ok_or(refusal::NUMBER)?;
+    test_entry(assembly, buffer, block)?;
+    Ok(revision)
 }
 
 /// The grid point of a row and column of the mapping block. Refusals 1, 12, 10,
 /// 2, 9.
 pub fn mapping(
     format_number: usize,
-    marks: u32,
+    assembly: Assembly,
     buffer: &[u8],
     row: usize,
     column: usize,
 ) -> Result<GridPoint, Refusal> {
     format(format_number)?;
-    test_marks(marks)?;
+    test_marks(assembly)?;
     let block = block(format_number, MAPPING)?;
     refuse_if(row > 24 || column > 24, refusal::RANGE)?;
-    test_entry(marks, buffer, block)?;
+    test_entry(assembly, buffer, block)?;
 
     let place = 100 * row + 4 * column + 1;
     Ok(GridPoint {
@@ -183,40 +254,56 @@ pub fn ir_place(c: usize, level: usize) -> usize {
     1_281 + 4_096 * (c - 1) + 4 * level
 }
 
+/// A level's value, and the calibration table ID that its block holds: "every
+/// user of an entry gets it too".
+#[derive(Clone, Copy, Debug, PartialEq, Eq)]
+pub struct Level {
+    pub value: R,
+    pub revision: u16,
+}
+
+/// The R*4.m at a place of calibration-2, with the block's revision.
+fn level_at(assembly: Assembly, buffer: &[u8], place: usize, m: usize) -> Result<Level, Refusal> {
+    Ok(Level {
+        value: numbers::read_r(from_place(buffer, place), 4, m)?,
+        revision: assembly.calibration,
+    })
+}
+
 /// The albedo of a level of VIS v, R*4.6 of calibration-2. Refusals 1, 12, 4,
 /// 10, 2, 9.
 pub fn albedo(
     format_number: usize,
-    marks: u32,
+    assembly: Assembly,
     buffer: &[u8],
     v: usize,
     level: usize,
-) -> Result<R, Refusal> {
+) -> Result<Level, Refusal> {
     format(format_number)?;
-    test_marks(marks)?;
+    test_marks(assembly)?;
     let block = block(format_number, CALIBRATION_2)?;
     refuse_if(!(1..=4).contains(&v), refusal::NUMBER)?;
     refuse_if(level > 63, refusal::RANGE)?;
-    test_entry(marks, buffer, block)?;
-    numbers::read_r(from_place(buffer, vis_place(v, level)), 4, 6)
+    test_entry(assembly, buffer, block)?;
+    level_at(assembly, buffer, vis_place(v, level), 6)
 }
 
 /// The temperature of a level of IR c, R*4.3 of calibration-2. Refusals 1, 12,
 /// 4, 10, 2, 9.
 pub fn temperature(
     format_number: usize,
-    marks: u32,
+    assembly: Assembly,
     buffer: &[u8],
     c: usize,
     level: usize,
-) -> Result<R, Refusal> {
+) -> Result<Level, Refusal> {
     format(format_number)?;
-    test_marks(marks)?;
+    test_marks(assembly)?;
     let block = block(format_number, CALIBRATION_2)?;
     refuse_if(!(1..=4).contains(&c), refusal::NUMBER)?;
     refuse_if(level > 1_023, refusal::RANGE)?;
-    test_entry(marks, buffer, block)?;
-    numbers::read_r(from_place(buffer, ir_place(c, level)), 4, 3)
+    test_entry(assembly, buffer, block)?;
+    level_at(assembly, buffer, ir_place(c, level), 3)
 }
 
 /// "one record of f64 values"; names and units from source document 000.
@@ -246,13 +333,13 @@ fn element(buffer: &[u8], place: usize, m: usize) -> Result<f64, Refusal> {
 /// The seven orbital elements of the orbit block. Refusals 1, 12, 2, 9.
 pub fn orbital_elements(
     format_number: usize,
-    marks: u32,
+    assembly: Assembly,
     buffer: &[u8],
 ) -> Result<OrbitalElements, Refusal> {
     format(format_number)?;
-    test_marks(marks)?;
+    test_marks(assembly)?;
     let block = block(format_number, ORBIT)?;
-    test_entry(marks, buffer, block)?;
+    test_entry(assembly, buffer, block)?;
 
     Ok(OrbitalElements {
         epoch: element(buffer, 157, 8)?,

@@ -51,7 +51,7 @@ impl Random {
 }
 
 fn wire(format_number: usize, k: u64) -> Vec<u8> {
-    let line = pattern::line(format_number, k).expect("the pattern serves formats 1 and 2");
+    let line = pattern::line(format_number, k, 0).expect("the pattern serves formats 1 and 2");
     pattern::on_the_wire(format_number, &line).expect("a whole line")
 }
 

@@ -13,16 +13,30 @@
 //! Behind `blocks` stand the answers of adding the line's segment to the blocks
 //! 1 to 5, 0 or a refusal.
 //!
-//! After the last line come, in this order: how many segments each block has;
-//! of the finished ones some grid points, the orbital elements, some albedos
-//! and some temperatures; and the number of lines.
+//! After the last line come, in this order: a row for each block; of the
+//! finished ones some grid points, the orbital elements, some albedos and some
+//! temperatures; and the number of lines. The row of a block is, with n
+//! segments stored,
+//! ```text
+//! mapping n/25
+//! orbit n/25
+//! MANAM n/25 revision R foreign M
+//! calibration-1 n/25 revision R foreign M
+//! calibration-2 n/25 revision R foreign M
+//! ```
+//! `revision R` stands only behind a finished block, R as the call
+//! [`blocks::revision`] gives it. `foreign M` stands only where lines were
+//! refused with 14 for this block; M is how many. A block has one assembly for
+//! the whole recording, so lines of other tables stay foreign to it. In format
+//! 2 the last row is `calibration-2 not in HiRID`.
 
-use crate::blocks::{self, from_place, ALL_MARKS, BLOCKS, CALIBRATION_2, MAPPING, ORBIT};
+use crate::blocks::{self, from_place, Assembly, Level};
+use crate::blocks::{ALL_MARKS, BLOCKS, CALIBRATION_2, MAPPING, ORBIT};
 use crate::document;
 use crate::listing;
 use crate::numbers::{self, R};
 use crate::reader::Recording;
-use crate::refusal::Refusal;
+use crate::refusal::{self, Refusal};
 
 /// The names of the blocks, in the order of their numbers.
 const NAMES: [&str; 5] = [
@@ -93,30 +107,32 @@ fn degrees(n: i32, above: &str, below: &str) -> String {
     format!("{} {}", n.abs(), if n < 0 { below } else { above })
 }
 
-/// The marks and the buffer of one block.
-struct Assembly {
-    marks: u32,
+/// The assembly of one block, and how many lines it refused with 14.
+struct Kept {
+    assembly: Assembly,
     buffer: Vec<u8>,
+    foreign: usize,
 }
 
-impl Assembly {
+impl Kept {
     fn finished(&self) -> bool {
-        self.marks == ALL_MARKS
+        self.assembly.marks == ALL_MARKS
     }
 }
 
 /// The assemblies of the blocks 1 to 5, and how many lines went into them.
 struct Assemblies {
     format: usize,
-    blocks: Vec<Assembly>,
+    blocks: Vec<Kept>,
     lines: usize,
 }
 
 impl Assemblies {
     fn new(format: usize) -> Assemblies {
-        let empty = |size| Assembly {
-            marks: 0,
+        let empty = |size| Kept {
+            assembly: Assembly::default(),
             buffer: vec![0; size],
+            foreign: 0,
         };
         Assemblies {
             format,
@@ -129,19 +145,36 @@ impl Assemblies {
     fn row(&mut self, line: &[u8]) -> String {
         self.lines += 1;
         let mut row = groups(self.format, self.lines, line) + " blocks";
-        for (index, block) in self.blocks.iter_mut().enumerate() {
-            let (marks, buffer) = (&mut block.marks, &mut block.buffer);
-            let added = blocks::add_segment(self.format, line, index + 1, marks, buffer);
+        for (index, kept) in self.blocks.iter_mut().enumerate() {
+            let (assembly, buffer) = (&mut kept.assembly, &mut kept.buffer);
+            let added = blocks::add_segment(self.format, line, index + 1, assembly, buffer);
+            if added == Err(refusal::REVISION) {
+                kept.foreign += 1;
+            }
             row += &format!(" {}", added.err().unwrap_or(0));
         }
         row
     }
 
-    /// How many segments each block has. HiRID has no calibration-2.
+    /// How many segments each block has, and of which revision. HiRID has no
+    /// calibration-2.
     fn segments(&self) -> Vec<String> {
         let mut rows = Vec::new();
-        for (name, block) in NAMES.iter().zip(&self.blocks) {
-            rows.push(format!("{name} {}/25", block.marks.count_ones()));
+        for (index, kept) in self.blocks.iter().enumerate() {
+            let Kept {
+                assembly,
+                buffer,
+                foreign,
+            } = kept;
+            let mut row = format!("{} {}/25", NAMES[index], assembly.marks.count_ones());
+            // Refused where the block is not finished, and for mapping and orbit.
+            if let Ok(held) = blocks::revision(self.format, *assembly, index + 1, buffer) {
+                row += &format!(" revision {held}");
+            }
+            if *foreign > 0 {
+                row += &format!(" foreign {foreign}");
+            }
+            rows.push(row);
         }
         if self.format == 2 {
             rows[CALIBRATION_2 - 1] = "calibration-2 not in HiRID".to_string();
@@ -150,9 +183,9 @@ impl Assemblies {
     }
 
     fn mapping(&self) -> Vec<String> {
-        let Assembly { marks, buffer } = &self.blocks[MAPPING - 1];
+        let kept = &self.blocks[MAPPING - 1];
         let point = |&(row, column): &(usize, usize)| {
-            let point = blocks::mapping(self.format, *marks, buffer, row, column);
+            let point = blocks::mapping(self.format, kept.assembly, &kept.buffer, row, column);
             let point = or_refused(point, |p| {
                 format!(
                     "line {} pixel {} latitude {} longitude {}",
@@ -170,30 +203,33 @@ impl Assemblies {
     /// The elements with all their places, read where the block has them; that
     /// the call in f64 reads the same is another test.
     fn orbit(&self) -> String {
-        let Assembly { marks, buffer } = &self.blocks[ORBIT - 1];
+        let kept = &self.blocks[ORBIT - 1];
         let element = |&(name, place, m): &(&str, usize, usize)| {
-            let number = numbers::read_r(from_place(buffer, place), 6, m);
+            let number = numbers::read_r(from_place(&kept.buffer, place), 6, m);
             format!(" {name} {}", entry(number))
         };
         let elements = or_refused(
-            blocks::orbital_elements(self.format, *marks, buffer),
+            blocks::orbital_elements(self.format, kept.assembly, &kept.buffer),
             |_| ELEMENTS.iter().map(element).collect(),
         );
         format!("orbit{elements}")
     }
 
     fn levels(&self) -> Vec<String> {
-        let Assembly { marks, buffer } = &self.blocks[CALIBRATION_2 - 1];
+        let kept = &self.blocks[CALIBRATION_2 - 1];
+        let (assembly, buffer) = (kept.assembly, &kept.buffer);
+        let value = |level: Result<Level, Refusal>| entry(level.map(|level| level.value));
         let mut rows = Vec::new();
         for v in 1..=4 {
             for level in VIS_LEVELS {
-                let albedo = entry(blocks::albedo(self.format, *marks, buffer, v, level));
+                let albedo = value(blocks::albedo(self.format, assembly, buffer, v, level));
                 rows.push(format!("albedo VIS{v} level {level} {albedo}"));
             }
         }
         for c in 1..=4 {
             for level in IR_LEVELS {
-                let temperature = entry(blocks::temperature(self.format, *marks, buffer, c, level));
+                let temperature =
+                    value(blocks::temperature(self.format, assembly, buffer, c, level));
                 rows.push(format!("temperature IR{c} level {level} {temperature}"));
             }
         }

@@ -1,4 +1,4 @@
-//! The test pattern of `second signal N FORMAT [W]`, said so exactly that
+//! The test pattern of `second signal N FORMAT [W [T]]`, said so exactly that
 //! another program can make the same bytes.
 //!
 //! The recording is N lines on the wire, one behind the other, each as
@@ -7,6 +7,11 @@
 //! whole numbers; `div` is the quotient without its rest, `mod` the rest.
 //!
 //! Every sector has its own ID, the right check word and zero filler.
+//!
+//! **New tables.** T, 0 to 1,000,000 and 0 where it is left out, is the line,
+//! counted from 1, with which new tables come; with 0 none come. r is 1 where T
+//! is not 0 and k + 1 >= T, else 0: the tables are the old ones (r = 0) before
+//! line T, and the new ones (r = 1) from it on.
 //!
 //! **Sector 1 (DOC).** The byte at place p (3 to 2,293; places from 1, ID
 //! included) of line k is given by the first row that names p:
@@ -18,6 +23,8 @@
 //! | 9-10 | 23 91 (reset line 2,391) |
 //! | 11-12 | (100 + k) mod 10,000 as BCD*2 (scan count) |
 //! | 20-27 | the date, see below |
+//! | 28-29 | 2101 + r as I*2 (calibration table ID) |
+//! | 30-31 | 731 + r as I*2 (MANAM revision) |
 //! | 67 | k mod 5 picks from FF, F0, 00, 0F, A5 |
 //! | 193, 195 | 0 |
 //! | 194 | (k div 8) mod 25, the segment |
@@ -35,7 +42,9 @@
 //!
 //! **Blocks.** Blocks are b = 1 mapping, 2 orbit, 3 MANAM, 4 calibration-1,
 //! 5 calibration-2. Byte q of block b (q from 1 to its size) is
-//! ((q x q + 97 x b x q) div 5) mod 256. A line carries, for each block, the
+//! ((q x q + 97 x b x q) div 5) mod 256 for b 1 and 2, whatever r is, and
+//! ((q x q + 97 x b x q) div 5 + 85 x r) mod 256 for b 3 to 5: there no byte of
+//! the new tables is that of the old ones. A line carries, for each block, the
 //! bytes of its segment: place p of a block that begins at place f and has
 //! segments of z bytes holds byte q = segment x z + (p - f) + 1.
 //!
@@ -48,12 +57,20 @@
 //! j = 0, 1, ..., W-1. As 23 is odd, no two of them are the same.
 
 use crate::bits;
-use crate::blocks::{Block, BLOCKS, CALIBRATION_2};
+use crate::blocks::{BLOCKS, CALIBRATION_2, MANAM};
 use crate::document::LAST_PLACE;
 use crate::format::{format, LINE_BYTES};
 use crate::refusal::Refusal;
 use crate::scramble::{write_line, TAIL_BITS};
 use crate::sectors::{put_data, put_pixels, Sector, SECTORS};
+
+/// The highest T.
+pub const LAST_TABLES: u64 = 1_000_000;
+
+/// Whether line k has the new tables, with T `tables`: whether r is 1.
+pub fn changed(k: u64, tables: u64) -> bool {
+    tables != 0 && k + 1 >= tables
+}
 
 /// The last `2n` decimal digits of a value, two to a byte.
 pub fn bcd(value: u64, n: usize) -> Vec<u8> {
@@ -64,14 +81,17 @@ pub fn bcd(value: u64, n: usize) -> Vec<u8> {
         .collect()
 }
 
-/// Byte q of block b, both from 1.
-pub fn block_byte(b: usize, q: usize) -> u8 {
-    ((q * q + 97 * b * q) / 5 % 256) as u8
+/// Byte q of block b, both from 1, of the old tables or of the new ones.
+pub fn block_byte(b: usize, q: usize, changed: bool) -> u8 {
+    let more = if changed && b >= MANAM { 85 } else { 0 };
+    (((q * q + 97 * b * q) / 5 + more) % 256) as u8
 }
 
-/// The whole of block b.
-pub fn block(b: usize) -> Vec<u8> {
-    (1..=BLOCKS[b - 1].size).map(|q| block_byte(b, q)).collect()
+/// The whole of block b, of the old tables or of the new ones.
+pub fn block(b: usize, changed: bool) -> Vec<u8> {
+    (1..=BLOCKS[b - 1].size)
+        .map(|q| block_byte(b, q, changed))
+        .collect()
 }
 
 /// The eight bytes of the date of line k.
@@ -88,9 +108,11 @@ pub fn date(k: u64) -> Vec<u8> {
     date
 }
 
-/// The data of the sector DOC of line k.
-pub fn doc(format_number: usize, k: u64) -> Vec<u8> {
+/// The data of the sector DOC of line k, with T `tables`.
+pub fn doc(format_number: usize, k: u64, tables: u64) -> Vec<u8> {
     let segment = (k / 8 % 25) as usize;
+    let changed = changed(k, tables);
+    let r = u16::from(changed);
 
     // Index p is place p; the places 0 to 2 are thrown away at the end.
     let mut sector = vec![0; LAST_PLACE + 1];
@@ -105,20 +127,22 @@ pub fn doc(format_number: usize, k: u64) -> Vec<u8> {
     place(9, &bcd(2_391, 2));
     place(11, &bcd((100 + k) % 10_000, 2));
     place(20, &date(k));
+    place(28, &(2_101 + r).to_be_bytes());
+    place(30, &(731 + r).to_be_bytes());
     place(67, &[[0xFF, 0xF0, 0x00, 0x0F, 0xA5][(k % 5) as usize]]);
     place(193, &[0, segment as u8, 0, (k % 8) as u8]);
     for b in 1..=5 {
         if format_number == 1 || b != CALIBRATION_2 {
-            place(BLOCKS[b - 1].first, &segment_of(b, &BLOCKS[b - 1], segment));
+            place(BLOCKS[b - 1].first, &segment_of(b, segment, changed));
         }
     }
     sector.split_off(3)
 }
 
-fn segment_of(b: usize, block: &Block, segment: usize) -> Vec<u8> {
-    let before = segment * block.segment_bytes();
-    (1..=block.segment_bytes())
-        .map(|i| block_byte(b, before + i))
+fn segment_of(b: usize, segment: usize, changed: bool) -> Vec<u8> {
+    let bytes = BLOCKS[b - 1].segment_bytes();
+    (1..=bytes)
+        .map(|i| block_byte(b, segment * bytes + i, changed))
         .collect()
 }
 
@@ -135,10 +159,10 @@ pub fn pixels(s: usize, k: u64) -> Vec<u16> {
     (0..sector.count).map(|j| pixel(s, j, k)).collect()
 }
 
-/// The plain line k.
-pub fn line(format_number: usize, k: u64) -> Result<Vec<u8>, Refusal> {
+/// The plain line k, with T `tables`.
+pub fn line(format_number: usize, k: u64, tables: u64) -> Result<Vec<u8>, Refusal> {
     let mut line = vec![0; LINE_BYTES];
-    put_data(format_number, &mut line, 1, &doc(format_number, k))?;
+    put_data(format_number, &mut line, 1, &doc(format_number, k, tables))?;
     for s in 2..=12 {
         put_pixels(format_number, &mut line, s, &pixels(s, k))?;
     }
@@ -173,9 +197,9 @@ pub fn wrong_places(k: u64, wrong: usize) -> Vec<usize> {
         .collect()
 }
 
-/// Line k as it goes out, with so many wrong bits in its tail.
-pub fn signal(format_number: usize, k: u64, wrong: usize) -> Result<Vec<u8>, Refusal> {
-    let mut wire = on_the_wire(format_number, &line(format_number, k)?)?;
+/// Line k as it goes out, with so many wrong bits in its tail and T `tables`.
+pub fn signal(format_number: usize, k: u64, wrong: usize, tables: u64) -> Result<Vec<u8>, Refusal> {
+    let mut wire = on_the_wire(format_number, &line(format_number, k, tables)?)?;
     let tail = format(format_number)?.sync_bits - TAIL_BITS;
     for place in wrong_places(k, wrong) {
         bits::turn_over(&mut wire, tail + place);

@@ -45,6 +45,9 @@ pub const ID: Refusal = 6;
 /// above 24, repeat above 7"
 pub const DIGIT: Refusal = 7;
 
+/// Document 02, T-02: "14 for a foreign revision, tested before 8"
+pub const REVISION: Refusal = 14;
+
 /// "segment differs from the stored one"
 pub const SEGMENT: Refusal = 8;
 

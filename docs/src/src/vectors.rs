@@ -181,7 +181,7 @@ pub fn rows() -> Vec<String> {
         let zeros = pattern::line_of_zeros(number).expect("served");
         add(wire_row(number, "line of zeros", &zeros));
         for k in [0, 1, 199] {
-            let line = pattern::line(number, k).expect("served");
+            let line = pattern::line(number, k, 0).expect("served");
             add(wire_row(number, &format!("pattern line {k}"), &line));
         }
     }

@@ -427,7 +427,7 @@ fn vis2_is_not_taken_from_a_byte_edge() {
 
 #[test]
 fn the_check_does_not_go_over_the_filler() {
-    let mut line = pattern::line(1, 3).unwrap();
+    let mut line = pattern::line(1, 3, 0).unwrap();
     for sector in 1..=12 {
         let filler = SECTORS[sector - 1].filler_start();
         bits::set_bit(&mut line, filler, 1);

@@ -1,6 +1,7 @@
 //! The rows of `second fields`.
 
 use second::fields::Fields;
+use second::format::LINE_BYTES;
 use second::numbers::R;
 use second::pattern;
 use second::sectors;
@@ -19,7 +20,19 @@ fn rows(format: usize, lines: impl Iterator<Item = Vec<u8>>) -> Vec<String> {
 
 /// All rows of the recording of `second signal N FORMAT`.
 fn signal_rows(format: usize, n: u64) -> Vec<String> {
-    rows(format, (0..n).map(|k| pattern::line(format, k).unwrap()))
+    rows(format, (0..n).map(|k| pattern::line(format, k, 0).unwrap()))
+}
+
+/// All rows of the recording of `second signal 200 FORMAT 0 T`. Only the sector
+/// DOC is looked at, so the others are not made.
+fn tables_rows(format: usize, tables: u64) -> Vec<String> {
+    let line = |k| {
+        let mut line = vec![0; LINE_BYTES];
+        let doc = pattern::doc(format, k, tables);
+        sectors::put_data(format, &mut line, 1, &doc).unwrap();
+        line
+    };
+    rows(format, (0..200).map(line))
 }
 
 #[test]
@@ -44,19 +57,17 @@ fn a_signal_of_format_1_is_whole() {
         assert!(!row.contains("refused"), "{row}");
         assert!(row.ends_with(" blocks 0 0 0 0 0"), "{row}");
     }
-    let names = [
-        "mapping",
-        "orbit",
-        "MANAM",
-        "calibration-1",
-        "calibration-2",
+    let blocks = [
+        "mapping 25/25",
+        "orbit 25/25",
+        "MANAM 25/25 revision 731",
+        "calibration-1 25/25 revision 2101",
+        "calibration-2 25/25 revision 2101",
     ];
-    for (row, name) in rows[200..205].iter().zip(names) {
-        assert_eq!(*row, format!("{name} 25/25"));
-    }
+    assert_eq!(rows[200..205], blocks);
 
     // Bytes 1-4 of the mapping block, by the pattern: (1 + 97) div 5, ...
-    let byte = |b, q| u64::from(pattern::block_byte(b, q));
+    let byte = |b, q| u64::from(pattern::block_byte(b, q, false));
     let (line, pixel) = (256 * byte(1, 1) + byte(1, 2), 256 * byte(1, 3) + byte(1, 4));
     let point = format!(
         "mapping row 0 column 0 line {line} pixel {pixel} latitude 60 north longitude 45 east"
@@ -118,10 +129,75 @@ fn format_2_has_no_calibration_2() {
         assert!(!row.contains("refused"), "{row}");
         assert!(row.ends_with(" blocks 0 0 0 0 4"), "{row}");
     }
-    assert_eq!(rows[203], "calibration-1 25/25");
+    assert_eq!(rows[202], "MANAM 25/25 revision 731");
+    assert_eq!(rows[203], "calibration-1 25/25 revision 2101");
     assert_eq!(rows[204], "calibration-2 not in HiRID");
     assert!(rows[210].starts_with("orbit epoch "));
     assert_eq!(rows[211], "total 200");
+}
+
+/// New tables come with line 101: the blocks that go by them stop with the
+/// segments of the first 100 lines, and no entry of theirs is shown.
+#[test]
+fn new_tables_are_foreign_to_the_blocks_of_the_old_ones() {
+    for (format, before, after, last) in [
+        (
+            1,
+            "0 0 0 0 0",
+            "0 0 14 14 14",
+            "calibration-2 13/25 foreign 100",
+        ),
+        (2, "0 0 0 0 4", "0 0 14 14 4", "calibration-2 not in HiRID"),
+    ] {
+        let rows = tables_rows(format, 101);
+        assert_eq!(rows.len(), 200 + 5 + 5 + 1 + 1);
+        for (k, row) in rows[..200].iter().enumerate() {
+            let answers = if k < 100 { before } else { after };
+            assert!(row.ends_with(&format!(" blocks {answers}")), "{row}");
+        }
+        let blocks = [
+            "mapping 25/25",
+            "orbit 25/25",
+            "MANAM 13/25 foreign 100",
+            "calibration-1 13/25 foreign 100",
+            last,
+        ];
+        assert_eq!(rows[200..205], blocks);
+        assert!(rows[205].starts_with("mapping row 0 column 0 line "));
+        assert!(rows[210].starts_with("orbit epoch "));
+        assert_eq!(rows[211], "total 200");
+    }
+}
+
+/// New tables that come behind the last segment's first line, or with line 1.
+#[test]
+fn finished_blocks_say_their_revision() {
+    let late = tables_rows(1, 194);
+    let blocks = [
+        "mapping 25/25",
+        "orbit 25/25",
+        "MANAM 25/25 revision 731 foreign 7",
+        "calibration-1 25/25 revision 2101 foreign 7",
+        "calibration-2 25/25 revision 2101 foreign 7",
+    ];
+    assert_eq!(late[200..205], blocks);
+    assert_eq!(late.len(), 200 + 5 + 5 + 1 + 12 + 12 + 1);
+
+    let new = tables_rows(1, 1);
+    let blocks = [
+        "mapping 25/25",
+        "orbit 25/25",
+        "MANAM 25/25 revision 732",
+        "calibration-1 25/25 revision 2102",
+        "calibration-2 25/25 revision 2102",
+    ];
+    assert_eq!(new[200..205], blocks);
+    // Grid points and elements are the same; each albedo and each temperature is
+    // that of its own table.
+    assert_eq!(new[205..211], late[205..211]);
+    for row in 211..235 {
+        assert_ne!(new[row], late[row]);
+    }
 }
 
 /// One line each whose calls are refused, and a negative position.
@@ -129,11 +205,11 @@ fn format_2_has_no_calibration_2() {
 fn refused_groups() {
     // The pattern's DOC sector of line 0 with some bytes changed, by place.
     let changed = |places: &[(usize, u8)]| {
-        let mut doc = pattern::doc(1, 0);
+        let mut doc = pattern::doc(1, 0, 0);
         for &(place, byte) in places {
             doc[place - 3] = byte;
         }
-        let mut line = pattern::line(1, 0).unwrap();
+        let mut line = pattern::line(1, 0, 0).unwrap();
         sectors::put_data(1, &mut line, 1, &doc).unwrap();
         line
     };
@@ -181,7 +257,7 @@ fn refused_groups() {
 /// A recording that stops inside a line, and one that stops between lines.
 #[test]
 fn an_unfinished_line() {
-    let wire = pattern::on_the_wire(1, &pattern::line(1, 0).unwrap()).unwrap();
+    let wire = pattern::on_the_wire(1, &pattern::line(1, 0, 0).unwrap()).unwrap();
     // SYNC has 10,000 bits, 1,250 bytes.
     for (bytes, bits) in [
         (1_249, None),
@@ -205,7 +281,7 @@ fn an_unfinished_line() {
 fn pieces_change_nothing() {
     let mut recording = Vec::new();
     for k in 0..3 {
-        let line = pattern::line(1, k).unwrap();
+        let line = pattern::line(1, k, 0).unwrap();
         recording.extend(pattern::on_the_wire(1, &line).unwrap());
     }
     let mut fields = Fields::new(1, 0);

@@ -9,7 +9,7 @@
 use std::sync::OnceLock;
 
 use second::bits;
-use second::blocks::{self, ALL_MARKS, BLOCKS};
+use second::blocks::{self, Assembly, ALL_MARKS, BLOCKS, MANAM};
 use second::document;
 use second::format::{format, LINE_BYTES};
 use second::numbers::{read_bcd, read_i, read_r, write_r};
@@ -18,9 +18,9 @@ use second::reader::{impossible, read, State};
 use second::scramble::write_line;
 use second::sectors::{self, check_word, SECTORS, STRIP_BYTES};
 
-/// The refusal numbers as the table lists them; 13 is document 02's, "tested
-/// after 1".
-const TABLE: [u8; 13] = [1, 13, 12, 4, 10, 11, 2, 3, 5, 6, 7, 8, 9];
+/// The refusal numbers as the table lists them. 13 and 14 are document 02's:
+/// "tested after 1", "tested before 8".
+const TABLE: [u8; 14] = [1, 13, 12, 4, 10, 11, 2, 3, 5, 6, 7, 14, 8, 9];
 
 /// The faults of one call.
 struct Faults(Vec<u8>);
@@ -76,7 +76,7 @@ fn damage(line: &mut [u8], number: usize) {
 /// Line 9 of the pattern: segment 1, repeat 1. It is made once and copied.
 fn good_line() -> Vec<u8> {
     static LINE: OnceLock<Vec<u8>> = OnceLock::new();
-    LINE.get_or_init(|| pattern::line(1, 9).unwrap()).clone()
+    LINE.get_or_init(|| pattern::line(1, 9, 0).unwrap()).clone()
 }
 
 /// The good line with the faults 6, 5 and 2 in a sector.
@@ -388,7 +388,7 @@ fn pixels_that_the_sector_does_not_take_are_not_looked_at() {
 
 #[test]
 fn formats_sectors_and_channels_on_both_sides() {
-    let line = pattern::line(1, 0).unwrap();
+    let line = pattern::line(1, 0, 0).unwrap();
     for number in 0..5 {
         let expected = if (1..=2).contains(&number) {
             Ok(())
@@ -644,7 +644,7 @@ fn fields_by_place() {
 
 #[test]
 fn there_is_no_place_0_and_none_after_2293() {
-    let line = pattern::line(1, 0).unwrap();
+    let line = pattern::line(1, 0, 0).unwrap();
     assert_eq!(document::field_i(1, &line, 0, 1), Err(2));
     assert_eq!(document::field_i(1, &line, 1, 2), Ok(0));
     assert!(document::field_i(1, &line, 2_293, 1).is_ok());
@@ -653,12 +653,18 @@ fn there_is_no_place_0_and_none_after_2293() {
     assert_eq!(document::field_i(1, &line, usize::MAX, 4), Err(2));
 }
 
+/// The good line's numbers are 2101 and 731. A number by which the block does
+/// not go is always another one, and no fault.
 #[test]
 fn adding_a_segment() {
     for number in 1..=5 {
         let size = BLOCKS[number - 1].size;
+        let mut can_have = vec![1, 12, 4, 2, 5, 6, 7, 14, 8];
+        if number < MANAM {
+            can_have.retain(|&fault| fault != 14);
+        }
         for short_line in [false, true] {
-            every_set(&[1, 12, 4, 2, 5, 6, 7, 8], |faults| {
+            every_set(&can_have, |faults| {
                 let mut line = good_line();
                 if faults.has(7) {
                     doc_with(&mut line, 195, &[1]);
@@ -668,20 +674,28 @@ fn adding_a_segment() {
                 spoil(&mut line, &Faults(left.collect()), 1);
 
                 let short_block = faults.has(2) && !short_line;
-                let mut whole = pattern::block(number);
+                let mut whole = pattern::block(number, false);
                 whole.truncate(size - usize::from(short_block));
                 // Line 9 sends segment 1, which is stored already; with the
                 // fault 8 its last byte differs.
                 let last = 2 * BLOCKS[number - 1].segment_bytes() - 1;
                 whole[last] ^= faults.pick(8, 1, 0);
 
-                let marks_before = faults.pick(12, 1 << 25, 0) | 2;
-                let mut marks = marks_before;
+                let remembered = |own: bool, right: u16| match own {
+                    true => faults.pick(14, right + 1, right),
+                    false => 9_999,
+                };
+                let before = Assembly {
+                    marks: faults.pick(12, 1 << 25, 0) | 2,
+                    calibration: remembered(number > MANAM, 2_101),
+                    manam: remembered(number == MANAM, 731),
+                };
+                let mut assembly = before;
                 let mut buffer = whole.clone();
                 let block = faults.pick(4, 6, number);
                 let format = faults.pick(1, 3, 1);
-                let given = blocks::add_segment(format, &line, block, &mut marks, &mut buffer);
-                assert_eq!(marks, marks_before);
+                let given = blocks::add_segment(format, &line, block, &mut assembly, &mut buffer);
+                assert_eq!(assembly, before);
                 assert!(buffer == whole);
                 given.map(|added| {
                     assert_eq!((added.segment, added.first_copy), (1, false));
@@ -695,53 +709,67 @@ fn adding_a_segment() {
 fn a_refused_first_copy_is_not_stored() {
     let mut line = good_line();
     damage(&mut line, 1);
-    let mut marks = 0;
+    let mut assembly = Assembly::default();
     let mut buffer = vec![0xEE; 2_500];
     assert_eq!(
-        blocks::add_segment(1, &line, 1, &mut marks, &mut buffer),
+        blocks::add_segment(1, &line, 1, &mut assembly, &mut buffer),
         Err(5)
     );
-    assert_eq!(marks, 0);
+    assert_eq!(assembly, Assembly::default());
     assert_eq!(buffer, vec![0xEE; 2_500]);
 }
 
 #[test]
 fn block_numbers_on_both_sides() {
     for (format, last) in [(1, 5), (2, 4)] {
-        let line = pattern::line(format, 0).unwrap();
+        let line = pattern::line(format, 0, 0).unwrap();
         for number in 0..8 {
             let mut buffer = vec![0; 25_600];
-            let given = blocks::add_segment(format, &line, number, &mut 0, &mut buffer);
+            let mut assembly = Assembly::default();
+            let given = blocks::add_segment(format, &line, number, &mut assembly, &mut buffer);
             let served = (1..=last).contains(&number);
             assert_eq!(given.err(), if served { None } else { Some(4) });
         }
     }
 }
 
+/// A block with the fault 2.
+fn full(number: usize, faults: &Faults) -> Vec<u8> {
+    let mut buffer = pattern::block(number, false);
+    buffer.truncate(buffer.len() - faults.pick(2, 1, 0));
+    buffer
+}
+
+/// A record with these marks. No entry's refusals look at its numbers.
+fn marked(marks: u32) -> Assembly {
+    Assembly {
+        marks,
+        calibration: 2_101,
+        manam: 731,
+    }
+}
+
+/// The record of a finished block with the faults 9 and 12.
+fn assembly(faults: &Faults) -> Assembly {
+    let all = faults.pick(9, ALL_MARKS ^ 1 << 24, ALL_MARKS);
+    marked(all | faults.pick(12, 1 << 31, 0))
+}
+
 #[test]
 fn entries() {
-    let full = |number: usize, faults: &Faults| {
-        let mut buffer = pattern::block(number);
-        buffer.truncate(buffer.len() - faults.pick(2, 1, 0));
-        buffer
-    };
-    let marks = |faults: &Faults| {
-        let all = faults.pick(9, ALL_MARKS ^ 1 << 24, ALL_MARKS);
-        all | faults.pick(12, 1 << 31, 0)
-    };
     every_set(&[1, 12, 10, 2, 9], |faults| {
         let format = faults.pick(1, 3, 2);
         let row = faults.pick(10, 25, 24);
-        blocks::mapping(format, marks(faults), &full(1, faults), row, 24).map(|_| ())
+        blocks::mapping(format, assembly(faults), &full(1, faults), row, 24).map(|_| ())
     });
     every_set(&[1, 12, 10, 2, 9], |faults| {
         let format = faults.pick(1, 3, 2);
         let column = faults.pick(10, 25, 24);
-        blocks::mapping(format, marks(faults), &full(1, faults), 24, column).map(|_| ())
+        blocks::mapping(format, assembly(faults), &full(1, faults), 24, column).map(|_| ())
     });
     every_set(&[1, 12, 2, 9], |faults| {
         let format = faults.pick(1, 3, 2);
-        blocks::orbital_elements(format, marks(faults), &full(2, faults)).map(|_| ())
+        blocks::orbital_elements(format, assembly(faults), &full(2, faults)).map(|_| ())
     });
     // 4 is either a number that is not served or calibration-2 in format 2.
     for by_format in [false, true] {
@@ -753,34 +781,65 @@ fn entries() {
             } else {
                 4
             };
-            let (marks, block) = (marks(faults), full(5, faults));
+            let (assembly, block) = (assembly(faults), full(5, faults));
             let level = faults.pick(10, 64, 63);
-            let vis = blocks::albedo(format, marks, &block, number, level);
+            let vis = blocks::albedo(format, assembly, &block, number, level);
             let level = faults.pick(10, 1_024, 1_023);
-            let ir = blocks::temperature(format, marks, &block, number, level);
+            let ir = blocks::temperature(format, assembly, &block, number, level);
             assert_eq!(vis.err(), ir.err());
             ir.map(|_| ())
         });
     }
 }
 
+/// The revision of a finished block: 4 for every number but 3, 4 and 5, so for
+/// mapping and orbit too, and for calibration-2 in format 2.
+#[test]
+fn asking_for_a_revision() {
+    for format in [1, 2] {
+        for number in 3..=4 + usize::from(format == 1) {
+            for not_served in [0, 1, 2, 6, 255, 256, 259, usize::MAX, 5] {
+                if format == 1 && not_served == 5 {
+                    continue;
+                }
+                every_set(&[1, 12, 4, 2, 9], |faults| {
+                    let block = full(number, faults);
+                    let asked = faults.pick(4, not_served, number);
+                    let given = blocks::revision(
+                        faults.pick(1, 3, format),
+                        assembly(faults),
+                        asked,
+                        &block,
+                    );
+                    given.map(|held| assert_eq!(held, if number == MANAM { 731 } else { 2_101 }))
+                });
+            }
+        }
+    }
+}
+
 #[test]
 fn an_entry_needs_all_25_segments() {
-    let block = pattern::block(5);
+    let block = pattern::block(5, false);
     for segment in 0..25 {
-        let marks = ALL_MARKS ^ 1 << segment;
-        assert_eq!(blocks::albedo(1, marks, &block, 1, 0), Err(9));
-        assert_eq!(blocks::temperature(1, marks, &block, 1, 0), Err(9));
-        assert_eq!(blocks::mapping(1, marks, &block, 0, 0), Err(9));
-        assert_eq!(blocks::orbital_elements(1, marks, &block), Err(9));
+        let assembly = marked(ALL_MARKS ^ 1 << segment);
+        assert_eq!(blocks::albedo(1, assembly, &block, 1, 0), Err(9));
+        assert_eq!(blocks::temperature(1, assembly, &block, 1, 0), Err(9));
+        assert_eq!(blocks::mapping(1, assembly, &block, 0, 0), Err(9));
+        assert_eq!(blocks::orbital_elements(1, assembly, &block), Err(9));
+        for number in 3..=5 {
+            assert_eq!(blocks::revision(1, assembly, number, &block), Err(9));
+        }
     }
     for segment in 25..32 {
-        let marks = ALL_MARKS | 1 << segment;
-        assert_eq!(blocks::albedo(1, marks, &block, 1, 0), Err(12));
+        let assembly = marked(ALL_MARKS | 1 << segment);
+        assert_eq!(blocks::albedo(1, assembly, &block, 1, 0), Err(12));
+        assert_eq!(blocks::revision(1, assembly, 5, &block), Err(12));
     }
+    let assembly = marked(ALL_MARKS);
     for number in [0, 5] {
-        assert_eq!(blocks::albedo(1, ALL_MARKS, &block, number, 0), Err(4));
-        assert_eq!(blocks::temperature(1, ALL_MARKS, &block, number, 0), Err(4));
+        assert_eq!(blocks::albedo(1, assembly, &block, number, 0), Err(4));
+        assert_eq!(blocks::temperature(1, assembly, &block, number, 0), Err(4));
     }
 }
 

@@ -5,7 +5,7 @@ use std::io::Write;
 use std::process::{Command, Output, Stdio};
 
 use second::bits;
-use second::blocks::{self, Added, ALL_MARKS, BLOCKS};
+use second::blocks::{self, Added, Assembly, ALL_MARKS, BLOCKS};
 use second::damage::{self, Random};
 use second::document::{self, ScanMode, ScannerSelect, SubCommutation};
 use second::format::{format, LINE_BYTES};
@@ -91,7 +91,7 @@ fn the_pattern_reads_back_through_every_sector_call() {
         assert_eq!(found.len(), 2);
         for (k, line) in found.iter().enumerate() {
             let k = k as u64;
-            assert!(line.bytes == pattern::line(number, k).unwrap());
+            assert!(line.bytes == pattern::line(number, k, 0).unwrap());
             for s in 2..=12 {
                 let mut out = vec![0; SECTORS[s - 1].count];
                 sectors::pixels(number, &line.bytes, s, &mut out).unwrap();
@@ -108,7 +108,7 @@ fn the_pattern_reads_back_through_every_sector_call() {
             }
             let mut doc = vec![0; 2_291];
             sectors::data(number, &line.bytes, 1, &mut doc).unwrap();
-            assert!(doc == pattern::doc(number, k));
+            assert!(doc == pattern::doc(number, k, 0));
         }
     }
 }
@@ -131,7 +131,7 @@ fn the_pattern_reads_back_through_every_field_call() {
     for k in [
         0, 1, 2, 3, 4, 99, 100, 9_899, 9_900, 5_999, 144_000, 143_999,
     ] {
-        let line = pattern::line(1, k).unwrap();
+        let line = pattern::line(1, k, 0).unwrap();
         assert_eq!(document::scan_mode(1, &line), Ok(modes[(k % 4) as usize]));
         let mirror = mirrors[(k % 5) as usize];
         assert_eq!(document::scanner_select(1, &line), Ok(mirror));
@@ -186,7 +186,7 @@ fn line_positions_at_both_ends() {
 
 #[test]
 fn fields_by_place_agree_with_the_named_ones() {
-    let line = pattern::line(1, 77).unwrap();
+    let line = pattern::line(1, 77, 0).unwrap();
     assert_eq!(document::field_bcd(1, &line, 11, 2), Ok(177));
     assert_eq!(document::field_bcd(1, &line, 20, 2), Ok(2005));
     assert_eq!(document::field_i(1, &line, 193, 4), Ok(9 << 16 | 5));
@@ -232,12 +232,19 @@ fn the_powers_are_powers_of_ten() {
     }
 }
 
+/// The record of a block that is finished with the pattern's old tables.
+const FINISHED: Assembly = Assembly {
+    marks: ALL_MARKS,
+    calibration: 2_101,
+    manam: 731,
+};
+
 /// 200 lines of the pattern, into all the blocks.
 #[test]
 fn blocks_come_together_from_200_lines() {
     for number in [1, 2] {
         let last = if number == 1 { 5 } else { 4 };
-        let mut marks = [0; 5];
+        let mut assemblies = [Assembly::default(); 5];
         let mut buffers: Vec<Vec<u8>> = BLOCKS
             .iter()
             .map(|block| vec![0xEE; block.size + 1])
@@ -245,24 +252,24 @@ fn blocks_come_together_from_200_lines() {
         for k in 0..200 {
             // Only the sector DOC is looked at.
             let mut line = vec![0xEE; LINE_BYTES];
-            sectors::put_data(number, &mut line, 1, &pattern::doc(number, k)).unwrap();
+            sectors::put_data(number, &mut line, 1, &pattern::doc(number, k, 0)).unwrap();
             for b in 1..=last {
-                let (marks, buffer) = (&mut marks[b - 1], &mut buffers[b - 1]);
-                let before = (*marks, buffer.clone());
-                let added = blocks::add_segment(number, &line, b, marks, buffer);
+                let (assembly, buffer) = (&mut assemblies[b - 1], &mut buffers[b - 1]);
+                let before = (*assembly, buffer.clone());
+                let added = blocks::add_segment(number, &line, b, assembly, buffer);
                 let expected = Added {
                     segment: (k / 8) as usize,
                     first_copy: k % 8 == 0,
                 };
                 assert_eq!(added, Ok(expected));
                 if !expected.first_copy {
-                    assert!(before == (*marks, buffer.clone()));
+                    assert!(before == (*assembly, buffer.clone()));
                 }
             }
         }
         for b in 1..=last {
-            assert_eq!(marks[b - 1], ALL_MARKS);
-            let mut expected = pattern::block(b);
+            assert_eq!(assemblies[b - 1], FINISHED);
+            let mut expected = pattern::block(b, false);
             expected.push(0xEE);
             assert!(buffers[b - 1] == expected);
         }
@@ -271,10 +278,10 @@ fn blocks_come_together_from_200_lines() {
 
 #[test]
 fn entries_stand_where_the_paper_places_them() {
-    let block = pattern::block(1);
+    let block = pattern::block(1, false);
     for row in 0..25 {
         for column in 0..25 {
-            let point = blocks::mapping(1, ALL_MARKS, &block, row, column).unwrap();
+            let point = blocks::mapping(1, FINISHED, &block, row, column).unwrap();
             let at = 100 * row + 4 * column;
             let two = |i: usize| 256 * u32::from(block[i]) + u32::from(block[i + 1]);
             assert_eq!((point.line, point.pixel), (two(at), two(at + 2)));
@@ -282,20 +289,24 @@ fn entries_stand_where_the_paper_places_them() {
             assert_eq!(point.longitude, 45 + 5 * column as i32);
         }
     }
-    let last = blocks::mapping(1, ALL_MARKS, &block, 24, 24).unwrap();
+    let last = blocks::mapping(1, FINISHED, &block, 24, 24).unwrap();
     assert_eq!((last.latitude, last.longitude), (-60, 165));
 
-    let block = pattern::block(5);
+    let block = pattern::block(5, false);
     for number in 1..=4 {
         for level in 0..64 {
             let at = 256 + 256 * (number - 1) + 4 * level;
-            let given = blocks::albedo(1, ALL_MARKS, &block, number, level);
-            assert_eq!(given, read_r(&block[at..], 4, 6));
+            let given = blocks::albedo(1, FINISHED, &block, number, level);
+            let value = read_r(&block[at..], 4, 6).unwrap();
+            assert_eq!(given.map(|level| level.value), Ok(value));
+            assert_eq!(given.map(|level| level.revision), Ok(2_101));
         }
         for level in 0..1_024 {
             let at = 1_280 + 4_096 * (number - 1) + 4 * level;
-            let given = blocks::temperature(1, ALL_MARKS, &block, number, level);
-            assert_eq!(given, read_r(&block[at..], 4, 3));
+            let given = blocks::temperature(1, FINISHED, &block, number, level);
+            let value = read_r(&block[at..], 4, 3).unwrap();
+            assert_eq!(given.map(|level| level.value), Ok(value));
+            assert_eq!(given.map(|level| level.revision), Ok(2_101));
         }
     }
 }
@@ -315,7 +326,7 @@ fn orbital_elements_come_from_their_bytes() {
     for (i, &(negative, magnitude, m)) in sent.iter().enumerate() {
         write_r(6, m, negative, magnitude, &mut block[156 + 6 * i..]).unwrap();
     }
-    let elements = blocks::orbital_elements(2, ALL_MARKS, &block).unwrap();
+    let elements = blocks::orbital_elements(2, FINISHED, &block).unwrap();
     assert_eq!(elements.epoch, 53_383.0);
     assert_eq!(elements.semi_major_axis, 42_166.12345678);
     assert_eq!(elements.eccentricity, 0.0002345678);
@@ -336,7 +347,7 @@ fn the_listing_of_a_line_of_zeros() {
 
 #[test]
 fn the_listing_counts_good_sectors_and_set_filler_bits() {
-    let mut line = pattern::line(1, 0).unwrap();
+    let mut line = pattern::line(1, 0, 0).unwrap();
     // One data bit of IR1 upper, three filler bits of VIS1 and one of IR4.
     let turned = 1 - bits::bit(&line, 20_408 + 16);
     bits::set_bit(&mut line, 20_408 + 16, turned);
@@ -440,4 +451,51 @@ fn the_program_at_a_setting() {
     let output = outcome(&["signal", "1", "1", "65"], vec![]);
     let said = "not a number of wrong bits, 0 to 64: 65\n";
     assert_eq!((output.stdout, output.stderr), (vec![], said.into()));
+}
+
+/// `signal` with new tables from line T on, 0 as where it is left out.
+#[test]
+fn the_program_with_new_tables() {
+    for format in ["1", "2"] {
+        let number = format.parse().unwrap();
+        let good = damage::good(number, 9);
+        for none in ["0", "10", "1000000"] {
+            assert!(run(&["signal", "9", format, "0", none], Vec::new()) == good);
+        }
+        let across = run(&["signal", "9", format, "0", "9"], Vec::new());
+        let first_eight = 8 * good.len() / 9;
+        assert!(across[..first_eight] == good[..first_eight]);
+        assert!(across[first_eight..] == pattern::signal(number, 8, 0, 9).unwrap());
+        assert!(across != good);
+
+        // Line 9 is the first of segment 1.
+        let rows = String::from_utf8(run(&["fields", format], across.clone())).unwrap();
+        let last = if number == 1 { "14" } else { "4" };
+        assert!(rows.contains(&format!(" segment 1 repeat 0 blocks 0 0 14 14 {last}\n")));
+        assert!(rows.contains("\nmapping 2/25\norbit 2/25\nMANAM 1/25 foreign 1\n"));
+        // Sectors and filler are as good as before.
+        let listing = run(&["listing", format], across);
+        assert!(listing == run(&["listing", format], good));
+
+        // With wrong bits in the tails, too.
+        let both = run(&["signal", "2", format, "3", "2"], Vec::new());
+        let mut expected = pattern::signal(number, 0, 3, 0).unwrap();
+        expected.extend(pattern::signal(number, 1, 3, 1).unwrap());
+        assert!(both == expected);
+    }
+    for (words, said) in [
+        (
+            ["signal", "1", "1", "0", "1000001"],
+            "not the line of new tables, 0 to 1000000: 1000001\n",
+        ),
+        (
+            ["signal", "1", "1", "65", "1000001"],
+            "not a number of wrong bits, 0 to 64: 65\n",
+        ),
+        (["signal", "1", "3", "65", "1000001"], "refusal 1\n"),
+    ] {
+        let output = outcome(&words, Vec::new());
+        assert_eq!(output.status.code(), Some(2));
+        assert_eq!((output.stdout, output.stderr), (vec![], said.into()));
+    }
 }

@@ -194,7 +194,7 @@ fn an_evenly_iced_recording_gives_the_lines_that_were_sent() {
             let lines = lines(setting, &bits::from_bytes(&received.recording));
             assert_eq!(lines.len(), 3, "format {format}, {setting}");
             for (k, line) in (0..).zip(&lines) {
-                assert!(line.bytes == pattern::line(format, k).unwrap());
+                assert!(line.bytes == pattern::line(format, k, 0).unwrap());
             }
         }
     }
@@ -230,12 +230,12 @@ fn the_wrong_bits_of_the_signal() {
     assert!(all.into_iter().eq(0..64));
     for (format, sync) in [(1, 10_000), (2, 20_000)] {
         for (k, w) in [(0, 0), (0, 1), (3, 7), (9, 64)] {
-            let line = pattern::line(format, k).unwrap();
+            let line = pattern::line(format, k, 0).unwrap();
             let mut sent = pattern::on_the_wire(format, &line).unwrap();
             for place in wrong_places(k, w) {
                 bits::turn_over(&mut sent, sync - 64 + place);
             }
-            assert!(pattern::signal(format, k, w).unwrap() == sent);
+            assert!(pattern::signal(format, k, w, 0).unwrap() == sent);
         }
     }
 }

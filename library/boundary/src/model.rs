@@ -7,7 +7,10 @@ use std::collections::BTreeMap;
 pub const PREFIX: &str = "hansobrik_";
 
 /// The names of structs that do not follow the rule: in Rattle, C and Rust.
-const OTHER_NAMES: [(&str, &str, &str); 1] = [("ReaderState", "hansobrik_state", "State")];
+const OTHER_NAMES: [(&str, &str, &str); 2] = [
+    ("ReaderState", "hansobrik_state", "State"),
+    ("AssemblyRecord", "hansobrik_assembly", "Assembly"),
+];
 
 /// Names of parameters and fields that are words of C: there they get a `_`.
 const WORDS_OF_C: [&str; 12] = [

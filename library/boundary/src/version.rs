@@ -20,7 +20,7 @@ const MACROS: [&str; 6] = [
     "HANSOBRIK_VERSION_TEXT",
 ];
 
-/// 300 is 0.3.0.
+/// 400 is 0.4.0.
 #[derive(Clone, Debug, Default, PartialEq, Eq)]
 pub struct Version {
     pub number: u64,

@@ -227,8 +227,10 @@ fn a_struct_is_the_one_that_its_file_means() {
 fn names_follow_the_rule() {
     assert_eq!(c_name("CountAnswer"), "hansobrik_count_answer");
     assert_eq!(c_name("ReaderState"), "hansobrik_state");
+    assert_eq!(c_name("AssemblyRecord"), "hansobrik_assembly");
     assert_eq!(rust_name("CountAnswer"), "CountAnswer");
     assert_eq!(rust_name("ReaderState"), "State");
+    assert_eq!(rust_name("AssemblyRecord"), "Assembly");
 }
 
 const HEADER: &str = r#"

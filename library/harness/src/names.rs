@@ -1,4 +1,4 @@
-//! The 41 calls by name.
+//! The 42 calls by name.
 
 /// The calls in the header's order.
 #[derive(Clone, Copy, Debug, PartialEq, Eq)]
@@ -36,8 +36,9 @@ pub enum Name {
     BcdField,
     RealField,
     F64Field,
-    NoMarks,
+    FreshAssembly,
     AddSegment,
+    Revision,
     Mapping,
     Albedo,
     AlbedoF64,

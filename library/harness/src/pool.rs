@@ -61,9 +61,9 @@ impl Pool {
             good.push(line_of(|count| dice.random().bytes(count)));
         }
         for format in [1, 2] {
-            for _ in 0..5 {
+            for tables in [0, 0, 0, 1, 1] {
                 let k = dice.under(20_000) as u64;
-                good.push(pattern::line(format, k).expect("format 1 or 2"));
+                good.push(pattern::line(format, k, tables).expect("format 1 or 2"));
             }
         }
         let mut scrambling = vec![1; 15];

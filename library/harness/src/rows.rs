@@ -1,4 +1,4 @@
-//! The 41 calls as the header declares them. `tests/rows.rs` holds this table
+//! The 42 calls as the header declares them. `tests/rows.rs` holds this table
 //! to the header's own text.
 
 pub use crate::names::Name;
@@ -6,10 +6,10 @@ pub use crate::shapes::REGISTER_LENT;
 use crate::shapes::*;
 
 /// How many calls there are.
-pub const CALLS: usize = 41;
+pub const CALLS: usize = 42;
 
 /// All refusals, in the order in which they are tested.
-pub const ORDER: [u8; 13] = [1, 13, 12, 4, 10, 11, 2, 3, 5, 6, 7, 8, 9];
+pub const ORDER: [u8; 14] = [1, 13, 12, 4, 10, 11, 2, 3, 5, 6, 7, 14, 8, 9];
 
 /// A buffer of a call.
 #[derive(Clone, Copy, Debug, PartialEq, Eq)]
@@ -22,7 +22,7 @@ pub struct Part {
 }
 
 /// What comes back as it was handed in where a call is refused: the reader's
-/// record, a register, an assembly's marks.
+/// record, a register, an assembly's record.
 #[derive(Clone, Copy, Debug, PartialEq, Eq)]
 pub struct Kept {
     /// The first of them among the answer's fields, ...
@@ -60,7 +60,7 @@ const fn row(
     let kept = match name {
         Name::Stepped | Name::Step => KEEPS_REGISTER,
         Name::Read => KEEPS_RECORD,
-        Name::AddSegment => KEEPS_MARKS,
+        Name::AddSegment => KEEPS_ASSEMBLY,
         _ => KEEPS_NOTHING,
     };
     Row {
@@ -110,12 +110,13 @@ pub const ROWS: [Row; CALLS] = [
     row(Name::BcdField, "bcd_field", FIELD, &[LINE], VALUE, &[1, 10, 2, 5, 6, 7]),
     row(Name::RealField, "real_field", R_FIELD, &[LINE], REAL, PLACED),
     row(Name::F64Field, "f64_field", R_FIELD, &[LINE], VALUE, PLACED),
-    row(Name::NoMarks, "no_marks", &[], &[], MARKS, &[]),
-    row(Name::AddSegment, "add_segment", ADDING, &[LINE, BLOCK_WRITTEN], ADDED, &[1, 12, 4, 2, 5, 6, 7, 8]),
+    row(Name::FreshAssembly, "fresh_assembly", &[], &[], ASSEMBLY, &[]),
+    row(Name::AddSegment, "add_segment", NUMBERED, &[LINE, BLOCK_WRITTEN], ADDED, &[1, 12, 4, 2, 5, 6, 7, 14, 8]),
+    row(Name::Revision, "revision", NUMBERED, &[BLOCK], REVISED, &[1, 12, 4, 2, 9]),
     row(Name::Mapping, "mapping", POINT, &[BLOCK], GRID, &[1, 12, 10, 2, 9]),
-    row(Name::Albedo, "albedo", LEVEL, &[BLOCK], REAL, ENTRY),
-    row(Name::AlbedoF64, "albedo_f64", LEVEL, &[BLOCK], VALUE, ENTRY),
-    row(Name::Temperature, "temperature", LEVEL, &[BLOCK], REAL, ENTRY),
-    row(Name::TemperatureF64, "temperature_f64", LEVEL, &[BLOCK], VALUE, ENTRY),
-    row(Name::Elements, "elements", MARKED, &[BLOCK], ORBIT, &[1, 12, 2, 9]),
+    row(Name::Albedo, "albedo", LEVEL, &[BLOCK], LEVEL_REAL, ENTRY),
+    row(Name::AlbedoF64, "albedo_f64", LEVEL, &[BLOCK], LEVEL_FLOAT, ENTRY),
+    row(Name::Temperature, "temperature", LEVEL, &[BLOCK], LEVEL_REAL, ENTRY),
+    row(Name::TemperatureF64, "temperature_f64", LEVEL, &[BLOCK], LEVEL_FLOAT, ENTRY),
+    row(Name::Elements, "elements", ASSEMBLED, &[BLOCK], ORBIT, &[1, 12, 2, 9]),
 ];

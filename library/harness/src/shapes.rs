@@ -31,10 +31,35 @@ pub const R_FORM: Numbers = &[("n", 64), ("m", 8)];
 pub const R_PUT: Numbers = &[("negative", 1), ("magnitude", 64), ("n", 64), ("m", 8)];
 pub const FIELD: Numbers = &[("format", 8), ("place", 64), ("n", 64)];
 pub const R_FIELD: Numbers = &[("format", 8), ("place", 64), ("n", 64), ("m", 8)];
-pub const ADDING: Numbers = &[("format", 8), ("marks", 32), ("number", 8)];
-pub const POINT: Numbers = &[("format", 8), ("marks", 32), ("row", 16), ("column", 16)];
-pub const LEVEL: Numbers = &[("format", 8), ("marks", 32), ("channel", 8), ("level", 16)];
-pub const MARKED: Numbers = &[("format", 8), ("marks", 32)];
+pub const ASSEMBLED: Numbers = &[
+    ("format", 8),
+    ("marks", 32),
+    ("calibration", 16),
+    ("manam", 16),
+];
+pub const NUMBERED: Numbers = &[
+    ("format", 8),
+    ("marks", 32),
+    ("calibration", 16),
+    ("manam", 16),
+    ("number", 8),
+];
+pub const POINT: Numbers = &[
+    ("format", 8),
+    ("marks", 32),
+    ("calibration", 16),
+    ("manam", 16),
+    ("row", 16),
+    ("column", 16),
+];
+pub const LEVEL: Numbers = &[
+    ("format", 8),
+    ("marks", 32),
+    ("calibration", 16),
+    ("manam", 16),
+    ("channel", 8),
+    ("level", 16),
+];
 
 const fn part(what: &'static str, words: bool, written: bool) -> Part {
     Part {
@@ -133,9 +158,19 @@ pub const DATED: Fields = &[
     "year",
 ];
 pub const SEGMENT: Fields = &["refused", "segment", "repeat"];
-pub const MARKS: Fields = &["marks"];
-pub const ADDED: Fields = &["refused", "first_copy", "segment", "marks"];
+pub const ASSEMBLY: Fields = &["marks", "calibration", "manam"];
+pub const ADDED: Fields = &[
+    "refused",
+    "first_copy",
+    "segment",
+    "marks",
+    "calibration",
+    "manam",
+];
+pub const REVISED: Fields = &["refused", "revision"];
 pub const GRID: Fields = &["refused", "line", "pixel", "latitude", "longitude"];
+pub const LEVEL_REAL: Fields = &["refused", "negative", "places", "revision", "magnitude"];
+pub const LEVEL_FLOAT: Fields = &["refused", "revision", "value"];
 pub const ORBIT: Fields = &[
     "refused",
     "epoch",
@@ -163,10 +198,10 @@ pub const KEEPS_RECORD: Kept = Kept {
     number: 2,
     count: 9,
 };
-pub const KEEPS_MARKS: Kept = Kept {
+pub const KEEPS_ASSEMBLY: Kept = Kept {
     field: 3,
     number: 1,
-    count: 1,
+    count: 3,
 };
 
 // Refusals, in the order in which they are tested.

@@ -156,8 +156,7 @@ fn fields_are_those_of_the_answers() {
         let fields: Vec<&str> = match structs.get(&answer) {
             Some(fields) => fields.iter().map(|(_, what)| what.as_str()).collect(),
             None if answer == "uint8_t" => vec!["refused"],
-            None if row.text == "version" => vec!["version"],
-            None => vec!["marks"],
+            None => vec!["version"],
         };
         assert_eq!(fields, row.fields, "{}", row.text);
         let kept = &row.fields[row.kept.field..][..row.kept.count];

@@ -1,10 +1,13 @@
 //! Blocks put together out of 25 segments, and the entries of a finished one.
 //!
-//! Marks say which segments are stored: bit s is that of segment s.
+//! An assembly is its record, [`Assembly`], and its block buffer. It begins
+//! with a fresh record; the block buffer may hold anything.
 
-use crate::number::{float, real, R};
+use crate::number::R;
 use crate::raw;
 use crate::refusal::{unless, Refusal};
+
+pub use crate::raw::Assembly;
 
 /// What a line added to an assembly.
 #[derive(Clone, Copy, Debug, PartialEq, Eq)]
@@ -24,6 +27,20 @@ pub struct GridPoint {
     pub longitude: i16,
 }
 
+/// A level of calibration-2, and the calibration table ID of the block.
+#[derive(Clone, Copy, Debug, PartialEq, Eq)]
+pub struct Level {
+    pub value: R,
+    pub revision: u16,
+}
+
+/// The same in f64.
+#[derive(Clone, Copy, Debug, PartialEq)]
+pub struct LevelF64 {
+    pub value: f64,
+    pub revision: u16,
+}
+
 /// The orbital elements: the epoch as MJD, the axis in km, the angles in
 /// degrees.
 #[derive(Clone, Copy, Debug, PartialEq)]
@@ -37,21 +54,28 @@ pub struct Elements {
     pub anomaly: f64,
 }
 
-/// The marks of an assembly that has no segment yet: 0.
-pub fn no_marks() -> u32 {
+/// An assembly that has no segment yet: every field 0.
+pub fn fresh_assembly() -> Assembly {
     // SAFETY: it takes nothing.
-    unsafe { raw::hansobrik_no_marks() }
+    unsafe { raw::hansobrik_fresh_assembly() }
 }
 
-/// The segment of a block that a line carries, added to marks and block buffer.
+/// The segment of a block that a line carries, added to the block's assembly.
 /// Refused with FORMAT, STATE, NUMBER, SHORT_INPUT, REMAINDER, ID, FIELD,
-/// SEGMENT.
+/// REVISION, SEGMENT.
 ///
-/// The marks that the library gives back are stored in any case: a refused
-/// call gives back those that were handed in.
+/// The record takes calibration table ID and MANAM revision from the line that
+/// brings the first segment, and keeps them. For the two calibration blocks a
+/// line with another calibration table ID is refused with REVISION, for MANAM
+/// one with another MANAM revision, equal copies too; mapping and orbit go by
+/// neither. So after a change of the operator's tables every line is refused
+/// with REVISION until the caller begins a new assembly.
+///
+/// The record that the library gives back is stored in any case: a refused
+/// call gives back the one that was handed in.
 pub fn add_segment(
     format: u8,
-    marks: &mut u32,
+    assembly: &mut Assembly,
     line: &[u8],
     number: u8,
     block: &mut [u8],
@@ -60,7 +84,7 @@ pub fn add_segment(
     let a = unsafe {
         raw::hansobrik_add_segment(
             format,
-            *marks,
+            *assembly,
             line.as_ptr(),
             line.len(),
             number,
@@ -68,7 +92,7 @@ pub fn add_segment(
             block.len(),
         )
     };
-    *marks = a.marks;
+    *assembly = a.assembly;
     unless(
         a.refused,
         Added {
@@ -78,18 +102,30 @@ pub fn add_segment(
     )
 }
 
+/// Of which revision of the operator's tables a finished block is: of MANAM the
+/// MANAM revision, of a calibration block the calibration table ID; no other
+/// block is served. Refused with FORMAT, STATE, NUMBER, SHORT_INPUT,
+/// UNFINISHED.
+pub fn revision(format: u8, assembly: Assembly, number: u8, block: &[u8]) -> Result<u16, Refusal> {
+    // SAFETY: the pointer and the count are those of one slice.
+    let a =
+        unsafe { raw::hansobrik_revision(format, assembly, number, block.as_ptr(), block.len()) };
+    unless(a.refused, a.revision)
+}
+
 /// A point of a finished mapping block, row and column 0 to 24. Refused with
 /// FORMAT, STATE, RANGE, SHORT_INPUT, UNFINISHED.
 pub fn mapping(
     format: u8,
-    marks: u32,
+    assembly: Assembly,
     block: &[u8],
     row: u16,
     column: u16,
 ) -> Result<GridPoint, Refusal> {
     // SAFETY: the pointer and the count are those of one slice.
-    let a =
-        unsafe { raw::hansobrik_mapping(format, marks, block.as_ptr(), block.len(), row, column) };
+    let a = unsafe {
+        raw::hansobrik_mapping(format, assembly, block.as_ptr(), block.len(), row, column)
+    };
     unless(
         a.refused,
         GridPoint {
@@ -101,26 +137,70 @@ pub fn mapping(
     )
 }
 
+fn level_of(a: raw::LevelAnswer) -> Result<Level, Refusal> {
+    unless(
+        a.refused,
+        Level {
+            value: R {
+                negative: a.negative,
+                magnitude: a.magnitude,
+                places: a.places,
+            },
+            revision: a.revision,
+        },
+    )
+}
+
+fn level_f64_of(a: raw::LevelFloatAnswer) -> Result<LevelF64, Refusal> {
+    unless(
+        a.refused,
+        LevelF64 {
+            value: a.value,
+            revision: a.revision,
+        },
+    )
+}
+
 /// The albedo of a level, 0 to 63, of VIS 1 to 4. Refused with FORMAT, STATE,
 /// NUMBER, RANGE, SHORT_INPUT, UNFINISHED.
-pub fn albedo(format: u8, marks: u32, block: &[u8], channel: u8, level: u16) -> Result<R, Refusal> {
+pub fn albedo(
+    format: u8,
+    assembly: Assembly,
+    block: &[u8],
+    channel: u8,
+    level: u16,
+) -> Result<Level, Refusal> {
     // SAFETY: the pointer and the count are those of one slice.
-    real(unsafe {
-        raw::hansobrik_albedo(format, marks, block.as_ptr(), block.len(), channel, level)
+    level_of(unsafe {
+        raw::hansobrik_albedo(
+            format,
+            assembly,
+            block.as_ptr(),
+            block.len(),
+            channel,
+            level,
+        )
     })
 }
 
 /// The same in f64.
 pub fn albedo_f64(
     format: u8,
-    marks: u32,
+    assembly: Assembly,
     block: &[u8],
     channel: u8,
     level: u16,
-) -> Result<f64, Refusal> {
+) -> Result<LevelF64, Refusal> {
     // SAFETY: the pointer and the count are those of one slice.
-    float(unsafe {
-        raw::hansobrik_albedo_f64(format, marks, block.as_ptr(), block.len(), channel, level)
+    level_f64_of(unsafe {
+        raw::hansobrik_albedo_f64(
+            format,
+            assembly,
+            block.as_ptr(),
+            block.len(),
+            channel,
+            level,
+        )
     })
 }
 
@@ -128,36 +208,50 @@ pub fn albedo_f64(
 /// STATE, NUMBER, RANGE, SHORT_INPUT, UNFINISHED.
 pub fn temperature(
     format: u8,
-    marks: u32,
+    assembly: Assembly,
     block: &[u8],
     channel: u8,
     level: u16,
-) -> Result<R, Refusal> {
+) -> Result<Level, Refusal> {
     // SAFETY: the pointer and the count are those of one slice.
-    real(unsafe {
-        raw::hansobrik_temperature(format, marks, block.as_ptr(), block.len(), channel, level)
+    level_of(unsafe {
+        raw::hansobrik_temperature(
+            format,
+            assembly,
+            block.as_ptr(),
+            block.len(),
+            channel,
+            level,
+        )
     })
 }
 
 /// The same in f64.
 pub fn temperature_f64(
     format: u8,
-    marks: u32,
+    assembly: Assembly,
     block: &[u8],
     channel: u8,
     level: u16,
-) -> Result<f64, Refusal> {
+) -> Result<LevelF64, Refusal> {
     // SAFETY: the pointer and the count are those of one slice.
-    float(unsafe {
-        raw::hansobrik_temperature_f64(format, marks, block.as_ptr(), block.len(), channel, level)
+    level_f64_of(unsafe {
+        raw::hansobrik_temperature_f64(
+            format,
+            assembly,
+            block.as_ptr(),
+            block.len(),
+            channel,
+            level,
+        )
     })
 }
 
 /// The orbital elements of a finished orbit block. Refused with FORMAT, STATE,
 /// SHORT_INPUT, UNFINISHED.
-pub fn elements(format: u8, marks: u32, block: &[u8]) -> Result<Elements, Refusal> {
+pub fn elements(format: u8, assembly: Assembly, block: &[u8]) -> Result<Elements, Refusal> {
     // SAFETY: the pointer and the count are those of one slice.
-    let a = unsafe { raw::hansobrik_elements(format, marks, block.as_ptr(), block.len()) };
+    let a = unsafe { raw::hansobrik_elements(format, assembly, block.as_ptr(), block.len()) };
     unless(
         a.refused,
         Elements {

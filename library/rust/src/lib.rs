@@ -2,7 +2,7 @@
 //!
 //! Safe Rust calls of the proved library, one for each call of `hansobrik.h`,
 //! named as there without the prefix. A call that can refuse gives a `Result`;
-//! a refused call changes no buffer, no state and no marks. Its refusals are
+//! a refused call changes no buffer, no state and no assembly. Its refusals are
 //! named, as constants of [`Refusal`], in the order in which they are tested.
 //!
 //! Every call is safe from any thread on buffers of its own: the library has

@@ -34,6 +34,24 @@ pub struct State {
     pub waiting_count: u8,
 }
 
+/// What an assembly keeps between calls; 8 bytes without a gap. Every field 0
+/// is a fresh one.
+///
+/// A caller may look at all of it: at `marks`, and once a segment is marked at
+/// the two numbers, which say of which revision of the operator's tables the
+/// assembly is. Before that they say nothing.
+#[repr(C)]
+#[derive(Clone, Copy, Debug, Default, PartialEq, Eq)]
+pub struct Assembly {
+    /// Bit s is set once segment s is stored.
+    pub marks: u32,
+    /// The calibration table ID, sector bytes 28-29 of the line that brought
+    /// the first segment.
+    pub calibration: u16,
+    /// The MANAM revision, bytes 30-31 of that line.
+    pub manam: u16,
+}
+
 #[repr(C)]
 #[derive(Clone, Copy, Debug, Default, PartialEq, Eq)]
 pub struct FormatAnswer {
@@ -158,7 +176,14 @@ pub struct AddAnswer {
     pub refused: u8,
     pub first_copy: bool,
     pub segment: u8,
-    pub marks: u32,
+    pub assembly: Assembly,
+}
+
+#[repr(C)]
+#[derive(Clone, Copy, Debug, Default, PartialEq, Eq)]
+pub struct RevisionAnswer {
+    pub refused: u8,
+    pub revision: u16,
 }
 
 #[repr(C)]
@@ -169,6 +194,24 @@ pub struct GridAnswer {
     pub pixel: u16,
     pub latitude: i16,
     pub longitude: i16,
+}
+
+#[repr(C)]
+#[derive(Clone, Copy, Debug, Default, PartialEq, Eq)]
+pub struct LevelAnswer {
+    pub refused: u8,
+    pub negative: bool,
+    pub places: u8,
+    pub revision: u16,
+    pub magnitude: u64,
+}
+
+#[repr(C)]
+#[derive(Clone, Copy, Debug, Default, PartialEq)]
+pub struct LevelFloatAnswer {
+    pub refused: u8,
+    pub revision: u16,
+    pub value: f64,
 }
 
 #[repr(C)]
@@ -356,19 +399,26 @@ extern "C" {
 
 // Blocks.
 extern "C" {
-    pub fn hansobrik_no_marks() -> u32;
+    pub fn hansobrik_fresh_assembly() -> Assembly;
     pub fn hansobrik_add_segment(
         format: u8,
-        marks: u32,
+        assembly: Assembly,
         line: *const u8,
         line_count: usize,
         number: u8,
         block: *mut u8,
         block_count: usize,
     ) -> AddAnswer;
+    pub fn hansobrik_revision(
+        format: u8,
+        assembly: Assembly,
+        number: u8,
+        block: *const u8,
+        block_count: usize,
+    ) -> RevisionAnswer;
     pub fn hansobrik_mapping(
         format: u8,
-        marks: u32,
+        assembly: Assembly,
         block: *const u8,
         block_count: usize,
         row: u16,
@@ -376,39 +426,39 @@ extern "C" {
     ) -> GridAnswer;
     pub fn hansobrik_albedo(
         format: u8,
-        marks: u32,
+        assembly: Assembly,
         block: *const u8,
         block_count: usize,
         channel: u8,
         level: u16,
-    ) -> RealAnswer;
+    ) -> LevelAnswer;
     pub fn hansobrik_albedo_f64(
         format: u8,
-        marks: u32,
+        assembly: Assembly,
         block: *const u8,
         block_count: usize,
         channel: u8,
         level: u16,
-    ) -> FloatAnswer;
+    ) -> LevelFloatAnswer;
     pub fn hansobrik_temperature(
         format: u8,
-        marks: u32,
+        assembly: Assembly,
         block: *const u8,
         block_count: usize,
         channel: u8,
         level: u16,
-    ) -> RealAnswer;
+    ) -> LevelAnswer;
     pub fn hansobrik_temperature_f64(
         format: u8,
-        marks: u32,
+        assembly: Assembly,
         block: *const u8,
         block_count: usize,
         channel: u8,
         level: u16,
-    ) -> FloatAnswer;
+    ) -> LevelFloatAnswer;
     pub fn hansobrik_elements(
         format: u8,
-        marks: u32,
+        assembly: Assembly,
         block: *const u8,
         block_count: usize,
     ) -> OrbitAnswer;

@@ -2,7 +2,7 @@
 
 use core::fmt;
 
-/// The number of a refusal, one of the thirteen below.
+/// The number of a refusal, one of the fourteen below.
 #[derive(Clone, Copy, Debug, PartialEq, Eq, Hash)]
 pub struct Refusal(pub u8);
 
@@ -19,6 +19,7 @@ impl Refusal {
     pub const REMAINDER: Refusal = Refusal(5);
     pub const ID: Refusal = Refusal(6);
     pub const FIELD: Refusal = Refusal(7);
+    pub const REVISION: Refusal = Refusal(14);
     pub const SEGMENT: Refusal = Refusal(8);
     pub const UNFINISHED: Refusal = Refusal(9);
 
@@ -45,6 +46,9 @@ impl Refusal {
             Refusal::ID => "the remainder is 0, the ID not the sector's own",
             Refusal::FIELD => {
                 "BCD digit over 9, date part out of range, bad segment or repeat bytes"
+            }
+            Refusal::REVISION => {
+                "the segment is of another revision of the tables than the assembly"
             }
             Refusal::SEGMENT => "the segment differs from the stored one",
             Refusal::UNFINISHED => "an entry of a block without all 25 segments",

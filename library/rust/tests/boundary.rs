@@ -221,18 +221,38 @@ fn the_documentation_comes_back() {
     assert_eq!(real_field(HIRID, &line, 161, 4, 7).unwrap().places, 7);
 }
 
+/// A line of this segment, whose tables have these numbers: the calibration
+/// table ID and the MANAM revision. Every block has the segment in each byte.
+fn line_of_tables(segment: u8, calibration: u16, manam: u16) -> Vec<u8> {
+    let mut doc = [0; DATA_BYTES_8];
+    // The data begin with byte 3.
+    doc[25..27].copy_from_slice(&calibration.to_be_bytes());
+    doc[27..29].copy_from_slice(&manam.to_be_bytes());
+    doc[191] = segment;
+    doc[194..2112].fill(segment);
+    line_with(S_VISSR, &doc)
+}
+
+/// All marks, and these numbers.
+fn finished(calibration: u16, manam: u16) -> Assembly {
+    Assembly {
+        marks: ALL_MARKS,
+        calibration,
+        manam,
+    }
+}
+
 #[test]
 fn a_block_is_put_together() {
-    let mut marks = no_marks();
+    let mut assembly = fresh_assembly();
+    assert_eq!(assembly, Assembly::default());
     let mut block = vec![0; MAPPING_BYTES];
     for segment in 0..SEGMENTS {
-        let mut doc = [0; DATA_BYTES_8];
-        doc[191] = segment;
-        // Byte 197 starts the segment: one row of the grid.
-        doc[194..294].fill(segment);
-        let line = line_with(S_VISSR, &doc);
+        // The numbers change with every line, and mapping goes by neither.
+        let number = 0x0102 + 0x0101 * u16::from(segment);
+        let line = line_of_tables(segment, number, number + 1);
         for first_copy in [true, false] {
-            let added = add_segment(S_VISSR, &mut marks, &line, MAPPING, &mut block).unwrap();
+            let added = add_segment(S_VISSR, &mut assembly, &line, MAPPING, &mut block).unwrap();
             assert_eq!(
                 added,
                 Added {
@@ -242,10 +262,71 @@ fn a_block_is_put_together() {
             );
         }
     }
-    assert_eq!(marks, ALL_MARKS);
-    let point = mapping(S_VISSR, marks, &block, 24, 1).unwrap();
+    assert_eq!(assembly, finished(0x0102, 0x0103));
+    let point = mapping(S_VISSR, assembly, &block, 24, 1).unwrap();
     assert_eq!((point.line, point.pixel), (0x1818, 0x1818));
     assert_eq!((point.latitude, point.longitude), (-60, 50));
+    let refused = revision(S_VISSR, assembly, MAPPING, &block);
+    assert_eq!(refused, Err(Refusal::NUMBER));
+}
+
+/// The tables change in the middle of a recording: from there on every line is
+/// refused, until the block is begun anew. No block is half of each.
+#[test]
+fn a_block_is_of_one_revision() {
+    let sizes = [MANAM_BYTES, CALIBRATION_1_BYTES, CALIBRATION_2_BYTES];
+    for (number, size) in (MANAM..=CALIBRATION_2).zip(sizes) {
+        let mut assembly = fresh_assembly();
+        let mut block = vec![0xA5; size];
+        for segment in 0..10 {
+            let line = line_of_tables(segment, 0x0835, 0x02DB);
+            add_segment(S_VISSR, &mut assembly, &line, number, &mut block).unwrap();
+        }
+        let numbers = |a: Assembly| (a.calibration, a.manam);
+        assert_eq!(numbers(assembly), (0x0835, 0x02DB));
+        for segment in 0..SEGMENTS {
+            // Each number by itself is another, in its low byte or in its high.
+            for (calibration, manam) in [
+                (0x0836, 0x02DB),
+                (0x0935, 0x02DB),
+                (0x0835, 0x02DC),
+                (0x0835, 0x03DB),
+            ] {
+                let line = line_of_tables(segment, calibration, manam);
+                let (mut after, mut left) = (assembly, block.clone());
+                let added = add_segment(S_VISSR, &mut after, &line, number, &mut left);
+                let own_is_another = (number == MANAM) == (calibration == 0x0835);
+                if own_is_another {
+                    assert_eq!(added, Err(Refusal::REVISION));
+                    assert!(after == assembly && left == block);
+                } else {
+                    assert_eq!(added.unwrap().first_copy, segment >= 10);
+                    assert_eq!(numbers(after), (0x0835, 0x02DB));
+                }
+            }
+        }
+
+        // Begun anew: the block buffer is as it was left.
+        assembly = fresh_assembly();
+        for segment in (0..SEGMENTS).rev() {
+            let unfinished = revision(S_VISSR, assembly, number, &block);
+            assert_eq!(unfinished, Err(Refusal::UNFINISHED));
+            let line = line_of_tables(segment, 0x0836, 0x02DC);
+            let added = add_segment(S_VISSR, &mut assembly, &line, number, &mut block);
+            assert!(added.unwrap().first_copy);
+        }
+        assert_eq!(assembly, finished(0x0836, 0x02DC));
+        let own = if number == MANAM { 0x02DC } else { 0x0836 };
+        assert_eq!(revision(S_VISSR, assembly, number, &block), Ok(own));
+        if number == CALIBRATION_2 {
+            // Segments have 1,024 bytes: bytes 257 on are in segment 0, bytes
+            // 17,661 on in segment 17.
+            let level = albedo(S_VISSR, assembly, &block, 1, 0).unwrap();
+            assert_eq!((level.value.magnitude, level.revision), (0, 0x0836));
+            let level = temperature_f64(S_VISSR, assembly, &block, 4, 1023).unwrap();
+            assert_eq!((level.value, level.revision), (286331.153, 0x0836));
+        }
+    }
 }
 
 #[test]
@@ -352,31 +433,50 @@ fn refused_calls_leave_their_buffers() {
 }
 
 #[test]
-fn refused_segments_leave_marks_and_block() {
+fn refused_segments_leave_assembly_and_block() {
     let line = line_of_zeros(S_VISSR);
     let mut bad_repeat = [0; DATA_BYTES_8];
     bad_repeat[193] = 8;
     let bad_repeat = line_with(S_VISSR, &bad_repeat);
     let block = vec![0xA5; CALIBRATION_2_BYTES];
     // Segment 0 counts as stored, and the buffer differs from the line's copy.
+    // The line's own numbers are 0, so these are foreign.
     for (format, marks, line, number, length, refusal) in [
         (0, 1, &line, 1, 2500, Refusal::FORMAT),
         (1, 1 << 25, &line, 1, 2500, Refusal::STATE),
         (2, 1, &line, 5, 25_600, Refusal::NUMBER),
         (1, 1, &line, 5, 25_599, Refusal::SHORT_INPUT),
-        (1, 1, &bad_repeat, 1, 2500, Refusal::FIELD),
+        (1, 1, &bad_repeat, 5, 25_600, Refusal::FIELD),
+        (1, 1, &line, 3, 10_250, Refusal::REVISION),
+        (2, 1, &line, 4, 6_400, Refusal::REVISION),
+        (1, 1, &line, 5, 25_600, Refusal::REVISION),
         (1, 1, &line, 1, 2500, Refusal::SEGMENT),
+        (1, 1, &line, 2, 3200, Refusal::SEGMENT),
     ] {
-        let mut after = marks;
+        let assembly = Assembly {
+            marks,
+            calibration: 0x1234,
+            manam: 0x5678,
+        };
+        let mut after = assembly;
         assert!(leaves(&block[..length], refusal, |b| {
             add_segment(format, &mut after, line, number, b)
         }));
-        assert_eq!(after, marks);
+        assert_eq!(after, assembly);
     }
-    assert_eq!(mapping(1, 1, &block, 0, 0), Err(Refusal::UNFINISHED));
-    assert_eq!(elements(1, 1, &block), Err(Refusal::UNFINISHED));
-    assert_eq!(albedo(1, ALL_MARKS, &block, 1, 64), Err(Refusal::RANGE));
-    assert_eq!(temperature_f64(2, 1, &block, 5, 0), Err(Refusal::NUMBER));
+    let one = Assembly {
+        marks: 1,
+        ..fresh_assembly()
+    };
+    assert_eq!(mapping(1, one, &block, 0, 0), Err(Refusal::UNFINISHED));
+    assert_eq!(elements(1, one, &block), Err(Refusal::UNFINISHED));
+    assert_eq!(revision(1, one, 5, &block), Err(Refusal::UNFINISHED));
+    assert_eq!(revision(2, one, 5, &block), Err(Refusal::NUMBER));
+    let all = finished(1, 2);
+    assert_eq!(albedo(1, all, &block, 1, 64), Err(Refusal::RANGE));
+    assert_eq!(temperature_f64(2, one, &block, 5, 0), Err(Refusal::NUMBER));
+    let short = revision(1, all, 3, &block[..MANAM_BYTES - 1]);
+    assert_eq!(short, Err(Refusal::SHORT_INPUT));
 }
 
 #[test]
@@ -413,7 +513,9 @@ fn empty_slices_are_looked_at_by_nobody() {
         Err(Refusal::SHORT_OUTPUT)
     );
     assert_eq!(date(1, &[]), Err(Refusal::SHORT_INPUT));
-    assert_eq!(elements(1, ALL_MARKS, &[]), Err(Refusal::SHORT_INPUT));
+    assert_eq!(elements(1, finished(0, 0), &[]), Err(Refusal::SHORT_INPUT));
+    let refused = revision(1, finished(0, 0), MANAM, &[]);
+    assert_eq!(refused, Err(Refusal::SHORT_INPUT));
 }
 
 #[test]

@@ -26,6 +26,7 @@ fn records_have_the_layout_of_the_header() {
         position: 0, search: 8, register: 16, in_line: 18, search_count: 19,
         unread: 20, unread_count: 21, waiting: 22, waiting_count: 23,
     });
+    laid_out!(Assembly, 8, 4, { marks: 0, calibration: 4, manam: 6 });
     laid_out!(FormatAnswer, 40, 8, {
         refused: 0, number: 1, sync_bits: 8, information_bits: 16, dummy_bits: 24, bytes: 32,
     });
@@ -46,8 +47,13 @@ fn records_have_the_layout_of_the_header() {
         refused: 0, month: 1, day: 2, hour: 3, minute: 4, second: 5, hundredths: 6, year: 8,
     });
     laid_out!(SegmentAnswer, 3, 1, { refused: 0, segment: 1, repeat: 2 });
-    laid_out!(AddAnswer, 8, 4, { refused: 0, first_copy: 1, segment: 2, marks: 4 });
+    laid_out!(AddAnswer, 12, 4, { refused: 0, first_copy: 1, segment: 2, assembly: 4 });
+    laid_out!(RevisionAnswer, 4, 2, { refused: 0, revision: 2 });
     laid_out!(GridAnswer, 10, 2, { refused: 0, line: 2, pixel: 4, latitude: 6, longitude: 8 });
+    laid_out!(LevelAnswer, 16, 8, {
+        refused: 0, negative: 1, places: 2, revision: 4, magnitude: 8,
+    });
+    laid_out!(LevelFloatAnswer, 16, 8, { refused: 0, revision: 2, value: 8 });
     laid_out!(OrbitAnswer, 64, 8, {
         refused: 0, epoch: 8, axis: 16, eccentricity: 24, inclination: 32, node: 40,
         perigee: 48, anomaly: 56,

@@ -10,7 +10,7 @@ pub struct Made {
     pub joined: Vec<u16>,
     pub strip: Vec<u8>,
     pub wire: Vec<u8>,
-    pub marks: [u32; 5],
+    pub assemblies: [hansobrik::Assembly; 5],
     pub blocks: Vec<Vec<u8>>,
 }
 
@@ -23,7 +23,7 @@ impl Made {
             joined: vec![0xA5A5; hansobrik::IR_PIXELS],
             strip: vec![0xA5; hansobrik::STRIP_BYTES],
             wire: vec![0xA5; hansobrik::WIRE_BYTES_2],
-            marks: [0; 5],
+            assemblies: [hansobrik::fresh_assembly(); 5],
             blocks: [
                 hansobrik::MAPPING_BYTES,
                 hansobrik::ORBIT_BYTES,

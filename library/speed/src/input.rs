@@ -22,7 +22,7 @@ impl Input {
         let pixels: Vec<Vec<u16>> = (2..=12).map(|sector| pattern::pixels(sector, k)).collect();
         let narrow: Vec<Vec<u8>> = pixels[..10].iter().map(|p| bytes(p)).collect();
         let mut line = vec![0; LINE_BYTES];
-        let doc = pattern::doc(format.into(), k);
+        let doc = pattern::doc(format.into(), k, 0);
         put_data(format, &mut line, 1, &doc).expect(GOOD);
         for (sector, values) in (2..).zip(&narrow) {
             put_pixels(format, &mut line, sector, values).expect(GOOD);

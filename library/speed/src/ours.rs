@@ -1,5 +1,6 @@
 //! The library, and with the feature `before` that of an earlier commit: the
-//! same calls of another crate, but for a reader that takes no setting yet.
+//! same calls of another crate, but for a reader that takes no setting yet, and
+//! an assembly of which marks alone are kept.
 
 use crate::decoder::{Decoder, Made};
 use crate::input::Input;
@@ -7,7 +8,7 @@ use crate::input::Input;
 const GOOD: &str = "a good line";
 
 macro_rules! decoder {
-    ($decoder:ident, $library:ident, $read:path) => {
+    ($decoder:ident, $library:ident, $read:path, $add:path) => {
         pub struct $decoder {
             format: u8,
             state: $library::State,
@@ -72,9 +73,9 @@ macro_rules! decoder {
             fn add_segment(&mut self, block: u8) -> bool {
                 let made = &mut self.made;
                 let b = usize::from(block) - 1;
-                let added = $library::add_segment(
+                let added = $add(
                     self.format,
-                    &mut made.marks[b],
+                    &mut made.assemblies[b],
                     &made.line,
                     block,
                     &mut made.blocks[b],
@@ -99,9 +100,9 @@ macro_rules! decoder {
     };
 }
 
-decoder!(Ours, hansobrik, hansobrik::read);
+decoder!(Ours, hansobrik, hansobrik::read, hansobrik::add_segment);
 #[cfg(feature = "before")]
-decoder!(Before, before, read_before);
+decoder!(Before, before, read_before, add_before);
 
 #[cfg(feature = "before_setting")]
 use before::read as read_before;
@@ -117,4 +118,29 @@ fn read_before(
 ) -> Result<before::Read, before::Refusal> {
     assert_eq!(setting, 0, "the earlier reader takes no setting");
     before::read(format, state, piece, line)
+}
+
+/// The earlier library's call, over a record of its own or over marks.
+#[cfg(feature = "before")]
+fn add_before(
+    format: u8,
+    kept: &mut hansobrik::Assembly,
+    line: &[u8],
+    number: u8,
+    block: &mut [u8],
+) -> Result<before::Added, before::Refusal> {
+    #[cfg(feature = "before_assembly")]
+    {
+        let mut assembly = before::Assembly {
+            marks: kept.marks,
+            calibration: kept.calibration,
+            manam: kept.manam,
+        };
+        let added = before::add_segment(format, &mut assembly, line, number, block);
+        (kept.marks, kept.calibration) = (assembly.marks, assembly.calibration);
+        kept.manam = assembly.manam;
+        added
+    }
+    #[cfg(not(feature = "before_assembly"))]
+    before::add_segment(format, &mut kept.marks, line, number, block)
 }

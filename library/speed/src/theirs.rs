@@ -70,13 +70,21 @@ impl Decoder for Theirs {
     fn add_segment(&mut self, block: u8) -> bool {
         let made = &mut self.made;
         let b = usize::from(block) - 1;
+        let kept = &mut made.assemblies[b];
+        let mut assembly = blocks::Assembly {
+            marks: kept.marks,
+            calibration: kept.calibration,
+            manam: kept.manam,
+        };
         let added = blocks::add_segment(
             self.format,
             &made.line,
             block.into(),
-            &mut made.marks[b],
+            &mut assembly,
             &mut made.blocks[b],
         );
+        (kept.marks, kept.calibration) = (assembly.marks, assembly.calibration);
+        kept.manam = assembly.manam;
         added.expect(GOOD).first_copy
     }
 

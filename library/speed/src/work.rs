@@ -58,7 +58,7 @@ impl Work {
                 black_box(&decoder.made().line).len()
             }
             Work::FirstCopies => {
-                decoder.made().marks = black_box([0; 5]);
+                decoder.made().assemblies = black_box([hansobrik::fresh_assembly(); 5]);
                 blocks(decoder)
             }
             Work::LaterCopies => blocks(decoder),
@@ -189,7 +189,7 @@ mod tests {
     fn the_library_makes_the_pattern() {
         for format in [1, 2] {
             let input = Input::new(format, 9);
-            let line = second::pattern::line(format.into(), 9).unwrap();
+            let line = second::pattern::line(format.into(), 9, 0).unwrap();
             assert!(line == input.line);
             assert!(input.wire == second::pattern::on_the_wire(format.into(), &line).unwrap());
         }

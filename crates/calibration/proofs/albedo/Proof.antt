@@ -11,13 +11,13 @@ use Rattle.calibration.proofs.albedo.Tie as tie
 albedo-table-requires : tie.Need-albedo-table-requires
 albedo-table-requires c κs = search needs
 
-level-real-requires : tie.Need-level-real-requires
-level-real-requires c κs = subst Table (sym (c .albedo-table .ensures)) albedo-table
+level-of-requires : tie.Need-level-of-requires
+level-of-requires c κs = subst Table (sym (c .albedo-table .ensures)) albedo-table
 
 returns : tie.Need-returns
 returns c =
     let a = c .before .before .before .args in
-    subst (λ (t : Levels). LevelOk t (a .format) (a .marks) (now (a .block)) (a .channel) (a .level) (c .level-real .result)) (c .before .albedo-table .ensures) (c .level-real .ensures)
+    subst (λ (t : Levels). LevelOk t (a .format) (a .assembly) (now (a .block)) (a .channel) (a .level) (c .level-of .result)) (c .before .albedo-table .ensures) (c .level-of .ensures)
 
 pub albedo-spec : {M : Type 1} → statement M
-albedo-spec = tie.close (tie.spec albedo-table-requires level-real-requires returns)
+albedo-spec = tie.close (tie.spec albedo-table-requires level-of-requires returns)

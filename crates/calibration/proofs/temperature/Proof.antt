@@ -11,13 +11,13 @@ use Rattle.calibration.proofs.temperature.Tie as tie
 temperature-table-requires : tie.Need-temperature-table-requires
 temperature-table-requires c κs = search needs
 
-level-real-requires : tie.Need-level-real-requires
-level-real-requires c κs = subst Table (sym (c .temperature-table .ensures)) temperature-table
+level-of-requires : tie.Need-level-of-requires
+level-of-requires c κs = subst Table (sym (c .temperature-table .ensures)) temperature-table
 
 returns : tie.Need-returns
 returns c =
     let a = c .before .before .before .args in
-    subst (λ (t : Levels). LevelOk t (a .format) (a .marks) (now (a .block)) (a .channel) (a .level) (c .level-real .result)) (c .before .temperature-table .ensures) (c .level-real .ensures)
+    subst (λ (t : Levels). LevelOk t (a .format) (a .assembly) (now (a .block)) (a .channel) (a .level) (c .level-of .result)) (c .before .temperature-table .ensures) (c .level-of .ensures)
 
 pub temperature-spec : {M : Type 1} → statement M
-temperature-spec = tie.close (tie.spec temperature-table-requires level-real-requires returns)
+temperature-spec = tie.close (tie.spec temperature-table-requires level-of-requires returns)

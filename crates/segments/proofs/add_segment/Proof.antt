@@ -3,13 +3,10 @@ use mathlib.Core.Path.{_≡_, sym, ap, subst, _∙_}
 use Prim.Native.Nat.{ℕ, _≤_}
 use denote.Ref.{now}
 use lib.ListN.{length}
-use Rattle.formats.specs.Formats.{lineBytes}
 use Rattle.refusals.proofs.Words.{kept-some, kept-none, refused}
 use Rattle.refusals.proofs.Says.{says-some}
 use Rattle.document.specs.declared.segments.SubCommutation.the-variants.{Refused}
 use Rattle.document.specs.Segments.{subNumber, subSegment}
-use Rattle.blocks.specs.declared.block.Block.{Block}
-use Rattle.blocks.specs.Blocks.{Sound}
 use Rattle.blocks.proofs.Rows.{sound}
 use Rattle.segments.specs.Assembly.{segmentIn, carriedRefusal, addSegmentRefusal, addSegmentLeft}
 use Rattle.segments.proofs.Known.{carries}
@@ -20,7 +17,7 @@ use Rattle.segments.proofs.add_segment.Tie as tie
 
 -- the arm of a segment: nothing refuses the line before its bytes are compared, and the segment is that of byte 194
 is-carried : (c : tie.After-segment) → let a = c .before .before .before .before .before .args in
-    carriedRefusal (a .format) (a .marks) (now (a .line)) (a .number) (length (now (a .block))) ≡ 0
+    carriedRefusal (a .format) (a .assembly .marks) (now (a .line)) (a .number) (length (now (a .block))) ≡ 0
 is-carried c = sym (c .before .before .carried .ensures .0) ∙ ap subNumber (c .segment .given .1)
 
 is-segment : (c : tie.After-segment) → let a = c .before .before .before .before .before .args in c .segment .given .0 .0 ≡ segmentIn (now (a .line))
@@ -28,7 +25,7 @@ is-segment c = ap subSegment (sym (c .segment .given .1)) ∙ ap (λ (v : ℕ ×
 
 -- the other arm: what refuses it
 is-refused : (c : tie.After-k) → let a = c .before .before .before .before .before .args in
-    c .k .given .0 .0 ≡ carriedRefusal (a .format) (a .marks) (now (a .line)) (a .number) (length (now (a .block)))
+    c .k .given .0 .0 ≡ carriedRefusal (a .format) (a .assembly .marks) (now (a .line)) (a .number) (length (now (a .block)))
 is-refused c = ap subNumber (sym (c .k .given .1)) ∙ c .before .before .carried .ensures .0
 
 some : (c : tie.After-k) → c .k .given .0 .0 ≡ 0 → ⊥
@@ -40,17 +37,12 @@ carried-requires c κs = search needs
 enum-known-segment : tie.Need-enum-known-segment
 enum-known-segment c = search needs
 
-block-of-requires : tie.Need-block-of-requires
-block-of-requires c κs = search needs
-
 place-requires : tie.Need-place-requires
 place-requires c κs =
-    let start = c .before .before .before .before .before .before .before .before in
-    let a = start .args in
-    let found = c .before .before .before in
-    let h = carries (a .format) (a .marks) (now (a .line)) (a .number) (length (now (a .block))) (is-carried found) in
-    subst (λ (b : Block). Sound b × (found .segment .given .0 .0 ≤ 24) × (lineBytes ≤ length (now (a .line))) × (b .size ≤ length (now (a .block)))) (sym (c .before .block-of .ensures))
-    (sound (a .number) (h .low) (h .high), subst (λ (s : ℕ). s ≤ 24) (sym (is-segment found)) (h .segment), h .long, h .room)
+    let found = c .before .before in
+    let a = found .before .before .before .before .before .args in
+    let h = carries (a .format) (a .assembly .marks) (now (a .line)) (a .number) (length (now (a .block))) (is-carried found) in
+    record { row = sound (a .number) (h .low) (h .high); small = subst (λ (s : ℕ). s ≤ 24) (sym (is-segment found)) (h .segment); long = h .long; room = h .room }
 
 enum-known-k : tie.Need-enum-known-k
 enum-known-k c = search needs
@@ -61,9 +53,9 @@ same-length c = search needs
 returns : tie.Need-returns
 returns c =
     let placed = c .before .before in
-    let found = placed .before .before .before .before in
+    let found = placed .before .before .before in
     let a = found .before .before .before .before .before .args in
-    added-told (a .format) (a .marks) (now (a .line)) (a .number) (now (a .block)) (is-carried found) _ _ (placed .before .before .block-of .ensures) (is-segment found) _ _ (placed .place .ensures)
+    added-told (a .format) (a .assembly) (now (a .line)) (a .number) (now (a .block)) (is-carried found) _ (is-segment found) _ _ (placed .place .ensures)
 
 returns-2 : tie.Need-returns-2
 unfolding addSegmentRefusal addSegmentLeft
@@ -71,7 +63,7 @@ returns-2 c =
     let found = c .before in
     let a = found .before .before .before .before .before .args in
     let e = refused _ _ _ (is-refused found) (some found) in
-    (says-some (added-kind (a .marks)) _ _ _ e (some found), sym (kept-some _ _ _ (λ z. some found (e ∙ z))))
+    (says-some (added-kind (a .assembly)) _ _ _ e (some found), sym (kept-some _ _ _ (λ z. some found (e ∙ z))))
 
 pub add-segment-spec : {M : Type 1} → statement M
 add-segment-spec =
@@ -79,7 +71,6 @@ add-segment-spec =
     (tie.spec
     carried-requires
     enum-known-segment
-    block-of-requires
     place-requires
     enum-known-k
     same-length

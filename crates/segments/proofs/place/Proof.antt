@@ -1,88 +1,92 @@
 -- `segments::place` meets its contract. Assumes nothing.
-use mathlib.Core.Path.{sym, _∙_}
-use Prim.Native.Nat.{_+_, _*_, _≤_}
-use native.Mathlib.Omega.{arith}
+use mathlib.Core.Path.{_≡_, sym, ap, subst, _∙_}
 use denote.Ref.{now}
-use lib.ListN.{length}
-use Rattle.blocks.specs.Blocks.{segmentBytes}
-use Rattle.blocks.proofs.Rows.{in-block, in-line}
-use Rattle.segments.proofs.Known.{placed-equal, placed-differs, placed-new}
+use Rattle.blocks.specs.declared.block.Block.{Block}
+use Rattle.blocks.specs.declared.assembly.Revisions.{Revisions}
+use Rattle.revisions.specs.Carried.{revisionsIn, remembered}
+use Rattle.segments.specs.Assembly.{Placeable, placeRefusal}
+use Rattle.segments.proofs.Known.{placed-refused, placed-again, placed-new}
 use borrow.Author.Needs.{needs}
 use Rattle.segments.proofs.place.Statement.{statement}
 use Rattle.segments.proofs.place.Tie as tie
 
--- a segment's bytes lie in the line and in the block buffer
-fits : (c : tie.Start) → let a = c .args in a .segment * segmentBytes (a .b) + segmentBytes (a .b) ≤ length (now (a .block))
-fits c = in-block (c .args .b) (c .args .segment) (length (now (c .args .block))) (c .pre .0) (c .pre .1) (c .pre .3)
+-- the refusal is that of the numbers that the line carries
+refusal : (c : tie.After-place-refusal) → let a = c .before .before .before .before .before .args in
+    c .place-refusal .result ≡ placeRefusal (a .number) (a .assembly) (revisionsIn (now (a .line))) (now (a .line)) (a .segment) (now (a .block))
+refusal c =
+    let a = c .before .before .before .before .before .args in
+    c .place-refusal .ensures
+    ∙ ap (λ (r : Revisions). placeRefusal (a .number) (a .assembly) r (now (a .line)) (a .segment) (now (a .block))) (c .before .before .revisions-in .ensures)
 
-sub-from : tie.Need-sub-from
-sub-from c = search needs
+-- and so are the numbers that the assembly remembers
+from-now-on : (c : tie.After-remembered) → let a = c .before .before .before .before .before .before .before .args in
+    c .remembered .result ≡ remembered (a .assembly) (revisionsIn (now (a .line)))
+from-now-on c =
+    let a = c .before .before .before .before .before .before .before .args in
+    c .remembered .ensures ∙ ap (remembered (a .assembly)) (c .before .before .before .before .revisions-in .ensures)
 
-mul-at : tie.Need-mul-at
-mul-at c =
-    let start = c .before .before .before .before in
-    omega (arith, fits start, start .good)
+revisions-in-requires : tie.Need-revisions-in-requires
+revisions-in-requires c κs = c .before .before .pre .long
 
-is-marked-requires : tie.Need-is-marked-requires
-is-marked-requires c κs = search needs
-
-same-requires : tie.Need-same-requires
-same-requires c κs =
-    let start = c .before .before .before .before .before .before .before in
-    (in-line (start .args .b) (length (now (start .args .line))) (start .pre .0) (start .pre .2), omega (arith, fits start, start .pre .0 .fills, start .pre .3))
+place-refusal-requires : tie.Need-place-refusal-requires
+place-refusal-requires c κs = c .before .before .before .before .pre
 
 same-length : tie.Need-same-length
 same-length c = search needs
 
 returns : tie.Need-returns
-returns c =
-    let start = c .before .before .before .before .before .before .before .before .before in
-    let a = start .args in
-    let known = c .before .before .before in
-    placed-equal (a .b) (a .marks) (now (a .line)) (a .segment) (now (a .block)) (sym (known .before .is-marked .ensures) ∙ known .if1 .taken) (sym (c .before .same .ensures) ∙ c .if2 .taken)
+returns c = placed-refused _ _ _ _ _ _ (refusal (c .before)) (c .if1 .taken)
+
+remembered-requires : tie.Need-remembered-requires
+remembered-requires c κs = search needs
+
+is-marked-requires : tie.Need-is-marked-requires
+is-marked-requires c κs = c .before .before .before .before .before .before .before .before .pre .small
 
 same-length-2 : tie.Need-same-length-2
 same-length-2 c = search needs
 
 returns-2 : tie.Need-returns-2
 returns-2 c =
-    let start = c .before .before .before .before .before .before .before .before .before in
-    let a = start .args in
     let known = c .before .before .before in
-    placed-differs (a .b) (a .marks) (now (a .line)) (a .segment) (now (a .block)) (sym (known .before .is-marked .ensures) ∙ known .if1 .taken) (sym (c .before .same .ensures) ∙ c .if2 .left)
+    placed-again _ _ _ _ _ _ (refusal (known .before .before)) _ (known .before .if1 .left) (sym (c .before .is-marked .ensures) ∙ c .if2 .taken) (from-now-on known)
 
-copy-requires : tie.Need-copy-requires
-copy-requires c κs =
-    let start = c .before .before .before .before .before .before .before in
-    (in-line (start .args .b) (length (now (start .args .line))) (start .pre .0) (start .pre .2), fits start)
+block-of-requires : tie.Need-block-of-requires
+block-of-requires c κs = search needs
+
+store-requires : tie.Need-store-requires
+store-requires c κs =
+    let start = c .before .before .before .before .before .before .before .before .before .before .before .before in
+    let a = start .args in
+    subst (λ (b : Block). Placeable b (now (a .line)) (a .segment) (now (a .block))) (sym (c .before .block-of .ensures)) (start .pre)
 
 with-mark-requires : tie.Need-with-mark-requires
-with-mark-requires c κs = search needs
+with-mark-requires c κs = c .before .before .before .before .before .before .before .before .before .before .before .before .before .before .before .pre .small
 
 same-length-3 : tie.Need-same-length-3
 same-length-3 c = search needs
 
 returns-3 : tie.Need-returns-3
 returns-3 c =
-    let start = c .before .before .before .before .before .before .before .before .before .before .before in
-    let a = start .args in
-    let copied = c .before .before .before in
-    let known = copied .before .before in
-    placed-new (a .b) (a .marks) (now (a .line)) (a .segment) (now (a .block)) (c .with-mark .result) _ (sym (known .before .is-marked .ensures) ∙ known .if1 .left) (c .with-mark .ensures) (copied .copy .ensures)
+    let stored = c .before .before .before in
+    let new = stored .before .before .before in
+    let known = new .before .before .before in
+    placed-new _ _ _ _ _ _ (refusal (known .before .before)) _ _ _ _ (known .before .if1 .left) (sym (new .before .is-marked .ensures) ∙ new .if2 .left) (from-now-on known) (c .with-mark .ensures) (stored .store .ensures) (stored .before .before .block-of .ensures)
 
 pub place-spec : {M : Type 1} → statement M
 place-spec =
     tie.close
     (tie.spec
-    sub-from
-    mul-at
-    is-marked-requires
-    same-requires
+    revisions-in-requires
+    place-refusal-requires
     same-length
     returns
+    remembered-requires
+    is-marked-requires
     same-length-2
     returns-2
-    copy-requires
+    block-of-requires
+    store-requires
     with-mark-requires
     same-length-3
     returns-3)

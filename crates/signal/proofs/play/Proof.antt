@@ -5,10 +5,10 @@ use Rattle.signal.proofs.play.Statement.{statement}
 use Rattle.signal.proofs.play.Tie as tie
 
 abbrev Inv-loop : tie.InvT-loop
-Inv-loop format n w k₀ t5 t6 k = k ≤ n
+Inv-loop format n w t k₀ t5 t6 k = k ≤ n
 
 abbrev μ-loop : tie.MeasureT-loop
-μ-loop format n w k₀ t5 t6 k = n - k
+μ-loop format n w t k₀ t5 t6 k = n - k
 
 loop-holds : tie.Need-loop-holds Inv-loop μ-loop
 loop-holds c = search needs

@@ -45,18 +45,35 @@ returns-4 c =
     (rw (ne-eqb (args .a .names) 1 (third .if3 .left))
     (rw (eq-eqb (args .a .names) 2 (c .before .if4 .taken)) (c .with-names3 .ensures))))
 
-unserved-requires-2 : tie.Need-unserved-requires-2
-unserved-requires-2 c κs = search needs
+with-names-requires-4 : tie.Need-with-names-requires-4
+with-names-requires-4 c κs = search needs
 
 returns-5 : tie.Need-returns-5
 returns-5 c =
-    let third = c .before .before in
+    let fourth = c .before .before in
+    let third = fourth .before in
     let second = third .before in
     let args = second .before .before .args in
     rw (lt-ltb (args .a .names) (args .most) (second .before .if1 .left))
     (rw (ne-eqb (args .a .names) 0 (second .if2 .left))
     (rw (ne-eqb (args .a .names) 1 (third .if3 .left))
-    (rw (ne-eqb (args .a .names) 2 (c .before .if4 .left)) (c .unserved2 .ensures))))
+    (rw (ne-eqb (args .a .names) 2 (fourth .if4 .left))
+    (rw (eq-eqb (args .a .names) 3 (c .before .if5 .taken)) (c .with-names4 .ensures)))))
+
+unserved-requires-2 : tie.Need-unserved-requires-2
+unserved-requires-2 c κs = search needs
+
+returns-6 : tie.Need-returns-6
+returns-6 c =
+    let fourth = c .before .before in
+    let third = fourth .before in
+    let second = third .before in
+    let args = second .before .before .args in
+    rw (lt-ltb (args .a .names) (args .most) (second .before .if1 .left))
+    (rw (ne-eqb (args .a .names) 0 (second .if2 .left))
+    (rw (ne-eqb (args .a .names) 1 (third .if3 .left))
+    (rw (ne-eqb (args .a .names) 2 (fourth .if4 .left))
+    (rw (ne-eqb (args .a .names) 3 (c .before .if5 .left)) (c .unserved2 .ensures)))))
 
 pub named-spec : {M : Type 1} → statement M
 named-spec =
@@ -70,5 +87,7 @@ named-spec =
     returns-3
     with-names-requires-3
     returns-4
+    with-names-requires-4
+    returns-5
     unserved-requires-2
-    returns-5)
+    returns-6)

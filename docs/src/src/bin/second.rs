@@ -1,8 +1,8 @@
 //! The second decoder as a program.
 //!
-//! - `second signal N FORMAT [W]` writes a recording of N lines of the test
-//!   pattern, with W wrong bits in each tail; `second::pattern` says exactly
-//!   what it is.
+//! - `second signal N FORMAT [W [T]]` writes a recording of N lines of the test
+//!   pattern, with W wrong bits in each tail and new tables from line T on;
+//!   `second::pattern` says exactly what it is.
 //! - `second listing [FORMAT [SETTING]] < recording` lists the lines of a
 //!   recording. The setting is 0 where it is left out.
 //! - `second fields [FORMAT [SETTING]] < recording` writes the documentation
@@ -21,7 +21,7 @@ use second::listing::Listing;
 use second::scramble::TAIL_BITS;
 use second::{pattern, reader, refusal, vectors};
 
-const USAGE: &str = "usage: second signal N FORMAT [W]
+const USAGE: &str = "usage: second signal N FORMAT [W [T]]
        second listing [FORMAT [SETTING]] < recording
        second fields [FORMAT [SETTING]] < recording
        second vectors
@@ -33,14 +33,17 @@ fn refused(number: refusal::Refusal) -> Box<dyn Error> {
     format!("refusal {number}").into()
 }
 
-fn signal(lines: u64, format: usize, wrong: usize) -> Outcome {
+fn signal(lines: u64, format: usize, wrong: usize, tables: u64) -> Outcome {
     second::format::format(format).map_err(refused)?;
     if wrong > TAIL_BITS {
         return Err(format!("not a number of wrong bits, 0 to 64: {wrong}").into());
     }
+    if tables > pattern::LAST_TABLES {
+        return Err(format!("not the line of new tables, 0 to 1000000: {tables}").into());
+    }
     let mut out = io::stdout().lock();
     for k in 0..lines {
-        out.write_all(&pattern::signal(format, k, wrong).map_err(refused)?)?;
+        out.write_all(&pattern::signal(format, k, wrong, tables).map_err(refused)?)?;
     }
     Ok(out.flush()?)
 }
@@ -105,8 +108,16 @@ fn zeros() -> Outcome {
 
 fn run(words: &[&str]) -> Outcome {
     match words {
-        ["signal", lines, format] => signal(lines.parse()?, format.parse()?, 0),
-        ["signal", lines, format, wrong] => signal(lines.parse()?, format.parse()?, wrong.parse()?),
+        ["signal", lines, format] => signal(lines.parse()?, format.parse()?, 0, 0),
+        ["signal", lines, format, wrong] => {
+            signal(lines.parse()?, format.parse()?, wrong.parse()?, 0)
+        }
+        ["signal", lines, format, wrong, tables] => signal(
+            lines.parse()?,
+            format.parse()?,
+            wrong.parse()?,
+            tables.parse()?,
+        ),
         ["listing"] => listing(1, 0),
         ["listing", format] => listing(format.parse()?, 0),
         ["listing", format, setting] => listing(format.parse()?, setting.parse()?),

@@ -19,10 +19,30 @@ pub const EDITS: &[Edit] = &[
     texts(
         &[(HEADER, "uint32_t marks; /*", "uint16_t marks; /*")],
         &[
-            "hansobrik_add_answer: field 4",
+            "hansobrik_assembly: field 1",
             "uint16_t marks",
             "uint32_t marks",
             "rack_blocks",
+        ],
+    ),
+    texts(
+        &[
+            (HEADER, "uint16_t calibration; /*", "uint16_t swap; /*"),
+            (HEADER, "uint16_t manam; /*", "uint16_t calibration; /*"),
+            (HEADER, "uint16_t swap; /*", "uint16_t manam; /*"),
+        ],
+        &["hansobrik_assembly: field 2", "manam", "calibration"],
+    ),
+    texts(
+        &[(
+            HEADER,
+            "hansobrik_assembly assembly; /*",
+            "uint64_t assembly; /*",
+        )],
+        &[
+            "hansobrik_add_answer: field 4",
+            "uint64_t assembly",
+            "hansobrik_assembly assembly",
         ],
     ),
     texts(
@@ -71,7 +91,7 @@ pub const EDITS: &[Edit] = &[
             "} hansobrik_grid_answer;",
             "} hansobrik_point_answer;",
         )],
-        &["hansobrik_grid_answer is missing", "rack_blocks"],
+        &["hansobrik_grid_answer is missing", "rack_entries"],
     ),
     texts(
         &[(
@@ -153,18 +173,30 @@ pub const EDITS: &[Edit] = &[
     texts(
         &[(
             HEADER,
-            "uint32_t hansobrik_no_marks(void);",
-            "uint32_t hansobrik_no_marks(void); uint32_t hansobrik_all_marks(void);",
+            "uint32_t hansobrik_version(void);",
+            "uint32_t hansobrik_version(void); uint32_t hansobrik_all_marks(void);",
         )],
         &["hansobrik_all_marks: the source has no such function"],
     ),
     texts(
         &[(
             HEADER,
-            "uint32_t hansobrik_no_marks(void);",
-            "static inline uint32_t hansobrik_no_marks(void) { return 0; }",
+            "uint32_t hansobrik_version(void);",
+            "static inline uint32_t hansobrik_version(void) { return HANSOBRIK_VERSION; }",
         )],
-        &["hansobrik_no_marks has a body"],
+        &["hansobrik_version has a body"],
+    ),
+    texts(
+        &[(
+            HEADER,
+            "hansobrik_revision(uint8_t format, hansobrik_assembly assembly",
+            "hansobrik_revision(uint8_t format, uint64_t assembly",
+        )],
+        &[
+            "hansobrik_revision: parameter 2",
+            "uint64_t assembly",
+            "hansobrik_assembly assembly",
+        ],
     ),
     // structs and functions of Rust
     texts(
@@ -218,18 +250,21 @@ pub const EDITS: &[Edit] = &[
     texts(
         &[(
             RAW,
-            "pub fn hansobrik_no_marks() -> u32;",
-            "pub fn hansobrik_no_marks() -> u32; pub fn hansobrik_all_marks() -> u32;",
+            "pub fn hansobrik_version() -> u32;",
+            "pub fn hansobrik_version() -> u32; pub fn hansobrik_all_marks() -> u32;",
         )],
         &["hansobrik_all_marks: the source has no such function"],
     ),
     texts(
         &[(
             RAW,
-            "hansobrik_no_marks() -> u32",
-            "hansobrik_no_marks() -> u64",
+            "hansobrik_fresh_assembly() -> Assembly",
+            "hansobrik_fresh_assembly() -> u64",
         )],
-        &["hansobrik_no_marks gives u64", "u32 by the source"],
+        &[
+            "hansobrik_fresh_assembly gives u64",
+            "Assembly by the source",
+        ],
     ),
     // the Rattle text
     texts(
@@ -402,6 +437,18 @@ pub const EDITS: &[Edit] = &[
         &["hansobrik_read_bcd: refused with (SHORT_INPUT, RANGE, FIELD) by its comment"],
     ),
     texts(
+        &[(
+            HEADER,
+            "FIELD, REVISION, SEGMENT.",
+            "FIELD, SEGMENT, REVISION.",
+        )],
+        &[
+            "hansobrik_add_segment: refused with",
+            "FIELD, SEGMENT, REVISION) by its comment",
+            "FIELD, REVISION, SEGMENT) by",
+        ],
+    ),
+    texts(
         &[(HEADER, "first bit. Never refused.", "first bit.")],
         &["the comment of hansobrik_fresh names no refusals"],
     ),
@@ -537,7 +584,25 @@ pub const EDITS: &[Edit] = &[
     ),
     compilers(
         &[(HEADER, "uint32_t marks; /*", "uint16_t marks; /*")],
-        &["by cc:", "not hansobrik_add_answer.marks as uint32_t"],
+        &["by cc:", "not hansobrik_assembly.marks as uint32_t"],
+    ),
+    compilers(
+        &[(HEADER, "uint32_t marks; /*", "uint16_t marks; /*")],
+        &[
+            "by c++:",
+            "the size of hansobrik_add_answer is 10, but 12 by the source",
+        ],
+    ),
+    compilers(
+        &[(
+            RAW,
+            "pub calibration: u16,",
+            "pub calibration: u16, pub gap: u16,",
+        )],
+        &[
+            "by rustc:",
+            "the offset of raw::Assembly.manam is 8, but 6 by the source",
+        ],
     ),
     compilers(
         &[(

@@ -32,6 +32,20 @@ pub fn record(s: State) -> Vec<u64> {
     ]
 }
 
+/// An assembly's record out of its fields.
+pub fn assembly(n: &[u64]) -> Assembly {
+    Assembly {
+        marks: n[0] as u32,
+        calibration: n[1] as u16,
+        manam: n[2] as u16,
+    }
+}
+
+/// The fields of an assembly's record.
+pub fn assembled(a: Assembly) -> Vec<u64> {
+    vec![a.marks.into(), a.calibration.into(), a.manam.into()]
+}
+
 pub fn alone(refused: u8) -> Vec<u64> {
     vec![refused.into()]
 }
@@ -123,12 +137,12 @@ pub fn segment(a: SegmentAnswer) -> Vec<u64> {
 }
 
 pub fn added(a: AddAnswer) -> Vec<u64> {
-    vec![
-        a.refused.into(),
-        a.first_copy.into(),
-        a.segment.into(),
-        a.marks.into(),
-    ]
+    let head = vec![a.refused.into(), a.first_copy.into(), a.segment.into()];
+    [head, assembled(a.assembly)].concat()
+}
+
+pub fn revision(a: RevisionAnswer) -> Vec<u64> {
+    vec![a.refused.into(), a.revision.into()]
 }
 
 pub fn grid(a: GridAnswer) -> Vec<u64> {
@@ -139,6 +153,20 @@ pub fn grid(a: GridAnswer) -> Vec<u64> {
         i64::from(a.latitude) as u64,
         i64::from(a.longitude) as u64,
     ]
+}
+
+pub fn level(a: LevelAnswer) -> Vec<u64> {
+    vec![
+        a.refused.into(),
+        a.negative.into(),
+        a.places.into(),
+        a.revision.into(),
+        a.magnitude,
+    ]
+}
+
+pub fn level_float(a: LevelFloatAnswer) -> Vec<u64> {
+    vec![a.refused.into(), a.revision.into(), a.value.to_bits()]
 }
 
 pub fn orbit(a: OrbitAnswer) -> Vec<u64> {

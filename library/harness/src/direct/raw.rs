@@ -34,9 +34,9 @@ fn made(call: &Call, [one, two]: &[Guarded; 2]) -> Vec<u64> {
     // numbers that a call does not have are 0 here, and not handed on
     let mut n = [0; 11];
     n[..call.numbers.len()].copy_from_slice(&call.numbers);
-    let (b0, b1, b2, b3) = (n[0] as u8, n[1] as u8, n[2] as u8, n[3] as u8);
+    let (b0, b1, b3, b4) = (n[0] as u8, n[1] as u8, n[3] as u8, n[4] as u8);
     let (n0, n1, n2) = (n[0] as usize, n[1] as usize, n[2] as usize);
-    let (marks, h2, h3) = (n[1] as u32, n[2] as u16, n[3] as u16);
+    let (kept, h4, h5) = (assembly(&n[1..]), n[4] as u16, n[5] as u16);
     let (p, c) = (one.bytes(), one.count());
     let (q, w, d) = (two.bytes(), two.words(), two.count());
     // SAFETY: p and c, and q or w and d, are pointer and count of two guarded
@@ -76,14 +76,15 @@ fn made(call: &Call, [one, two]: &[Guarded; 2]) -> Vec<u64> {
             Name::BcdField => bcd(hansobrik_bcd_field(b0, p, c, n1, n2)),
             Name::RealField => real(hansobrik_real_field(b0, p, c, n1, n2, b3)),
             Name::F64Field => float(hansobrik_f64_field(b0, p, c, n1, n2, b3)),
-            Name::NoMarks => vec![hansobrik_no_marks().into()],
-            Name::AddSegment => added(hansobrik_add_segment(b0, marks, p, c, b2, q, d)),
-            Name::Mapping => grid(hansobrik_mapping(b0, marks, p, c, h2, h3)),
-            Name::Albedo => real(hansobrik_albedo(b0, marks, p, c, b2, h3)),
-            Name::AlbedoF64 => float(hansobrik_albedo_f64(b0, marks, p, c, b2, h3)),
-            Name::Temperature => real(hansobrik_temperature(b0, marks, p, c, b2, h3)),
-            Name::TemperatureF64 => float(hansobrik_temperature_f64(b0, marks, p, c, b2, h3)),
-            Name::Elements => orbit(hansobrik_elements(b0, marks, p, c)),
+            Name::FreshAssembly => assembled(hansobrik_fresh_assembly()),
+            Name::AddSegment => added(hansobrik_add_segment(b0, kept, p, c, b4, q, d)),
+            Name::Revision => revision(hansobrik_revision(b0, kept, b4, p, c)),
+            Name::Mapping => grid(hansobrik_mapping(b0, kept, p, c, h4, h5)),
+            Name::Albedo => level(hansobrik_albedo(b0, kept, p, c, b4, h5)),
+            Name::AlbedoF64 => level_float(hansobrik_albedo_f64(b0, kept, p, c, b4, h5)),
+            Name::Temperature => level(hansobrik_temperature(b0, kept, p, c, b4, h5)),
+            Name::TemperatureF64 => level_float(hansobrik_temperature_f64(b0, kept, p, c, b4, h5)),
+            Name::Elements => orbit(hansobrik_elements(b0, kept, p, c)),
         }
     }
 }

@@ -1,10 +1,10 @@
 //! The safe functions of the crate `hansobrik`. A `Result` is turned into the
-//! fields of the answer; the record and the marks, which they change in place,
-//! are taken as they stand after the call, refused or not.
+//! fields of the answer; the two records, which they change in place, are taken
+//! as they stand after the call, refused or not.
 
 use hansobrik::{self as safe, Refusal};
 
-use super::answers::{record, state};
+use super::answers::{assembled, assembly, record, state};
 use crate::call::{Call, Lent, Outcome};
 use crate::rows::Name;
 
@@ -19,7 +19,7 @@ pub fn through_safe(call: &Call) -> Outcome {
         // these three cannot be refused
         Name::Version => vec![safe::version().into()],
         Name::Fresh => record(safe::fresh()),
-        Name::NoMarks => vec![safe::no_marks().into()],
+        Name::FreshAssembly => assembled(safe::fresh_assembly()),
         // and these two change what the caller keeps
         Name::Read => read(n, &mut lent),
         Name::AddSegment => add_segment(n, &mut lent),
@@ -53,12 +53,14 @@ fn add_segment(n: &[u64], lent: &mut [Lent]) -> Vec<u64> {
     let [line, block] = lent else {
         panic!("two buffers are asked for");
     };
-    let mut marks = n[1] as u32;
-    let block = block.bytes_mut();
-    match safe::add_segment(n[0] as u8, &mut marks, line.bytes(), n[2] as u8, block) {
-        Ok(a) => vec![0, a.first_copy.into(), a.segment.into(), marks.into()],
-        Err(Refusal(number)) => vec![number.into(), 0, 0, marks.into()],
-    }
+    let mut kept = assembly(&n[1..]);
+    let (format, number) = (n[0] as u8, n[4] as u8);
+    let (line, block) = (line.bytes(), block.bytes_mut());
+    let head = match safe::add_segment(format, &mut kept, line, number, block) {
+        Ok(added) => vec![0, added.first_copy.into(), added.segment.into()],
+        Err(Refusal(number)) => vec![number.into(), 0, 0],
+    };
+    [head, assembled(kept)].concat()
 }
 
 fn answer(name: Name, n: &[u64], lent: &mut [Lent]) -> Answer {
@@ -111,7 +113,7 @@ fn of_one(name: Name, n: &[u64], lent: &mut Lent) -> Answer {
             let (negative, size, places) = (n[0] == 1, n[2] as usize, n[3] as u8);
             safe::put_real(negative, n[1], size, places, lent.bytes_mut()).map(none)
         }
-        Name::Mapping | Name::Elements => of_block(name, n, lent.bytes()),
+        Name::Revision | Name::Mapping | Name::Elements => of_block(name, n, lent.bytes()),
         Name::Albedo | Name::AlbedoF64 | Name::Temperature | Name::TemperatureF64 => {
             of_block(name, n, lent.bytes())
         }
@@ -161,13 +163,14 @@ fn of_document(name: Name, n: &[u64], line: &[u8]) -> Answer {
 }
 
 fn of_block(name: Name, n: &[u64], block: &[u8]) -> Answer {
-    let (format, marks) = (n[0] as u8, n[1] as u32);
-    let channel = || n[2] as u8;
-    let level = || n[3] as u16;
+    let (format, kept) = (n[0] as u8, assembly(&n[1..]));
+    let channel = || n[4] as u8;
+    let level = || n[5] as u16;
     match name {
+        Name::Revision => safe::revision(format, kept, n[4] as u8, block).map(revision),
         Name::Mapping => {
-            let (row, column) = (n[2] as u16, n[3] as u16);
-            safe::mapping(format, marks, block, row, column).map(|point| {
+            let (row, column) = (n[4] as u16, n[5] as u16);
+            safe::mapping(format, kept, block, row, column).map(|point| {
                 vec![
                     point.line.into(),
                     point.pixel.into(),
@@ -176,13 +179,17 @@ fn of_block(name: Name, n: &[u64], block: &[u8]) -> Answer {
                 ]
             })
         }
-        Name::Albedo => safe::albedo(format, marks, block, channel(), level()).map(real),
-        Name::AlbedoF64 => safe::albedo_f64(format, marks, block, channel(), level()).map(float),
-        Name::Temperature => safe::temperature(format, marks, block, channel(), level()).map(real),
-        Name::TemperatureF64 => {
-            safe::temperature_f64(format, marks, block, channel(), level()).map(float)
+        Name::Albedo => safe::albedo(format, kept, block, channel(), level()).map(of_level),
+        Name::AlbedoF64 => {
+            safe::albedo_f64(format, kept, block, channel(), level()).map(of_level_f64)
         }
-        Name::Elements => safe::elements(format, marks, block).map(|e| {
+        Name::Temperature => {
+            safe::temperature(format, kept, block, channel(), level()).map(of_level)
+        }
+        Name::TemperatureF64 => {
+            safe::temperature_f64(format, kept, block, channel(), level()).map(of_level_f64)
+        }
+        Name::Elements => safe::elements(format, kept, block).map(|e| {
             let elements = [
                 e.epoch,
                 e.axis,
@@ -243,4 +250,22 @@ fn real(r: safe::R) -> Vec<u64> {
 
 fn float(value: f64) -> Vec<u64> {
     vec![value.to_bits()]
+}
+
+fn revision(number: u16) -> Vec<u64> {
+    vec![number.into()]
+}
+
+fn of_level(level: safe::Level) -> Vec<u64> {
+    let (r, revision) = (level.value, level.revision);
+    vec![
+        r.negative.into(),
+        r.places.into(),
+        revision.into(),
+        r.magnitude,
+    ]
+}
+
+fn of_level_f64(level: safe::LevelF64) -> Vec<u64> {
+    vec![level.revision.into(), level.value.to_bits()]
 }

@@ -24,7 +24,7 @@ pub fn expected(call: &Call) -> Outcome {
         // these three have no `refused`
         Name::Version => ground::version(),
         Name::Fresh => recording::fresh(),
-        Name::NoMarks => vec![0],
+        Name::FreshAssembly => assembly::fresh(),
         _ => match answer(call, &mut lent) {
             Ok(fields) => [vec![0], fields].concat(),
             Err(number) => call.refused(number),
@@ -72,13 +72,14 @@ fn answer(call: &Call, lent: &mut [Lent]) -> Answer {
         Name::RealField => documentation::real_field(n, lent),
         Name::F64Field => documentation::f64_field(n, lent),
         Name::AddSegment => assembly::add_segment(n, lent),
+        Name::Revision => assembly::revision(n, lent),
         Name::Mapping => assembly::mapping(n, lent),
         Name::Albedo => assembly::albedo(n, lent),
         Name::AlbedoF64 => assembly::albedo_f64(n, lent),
         Name::Temperature => assembly::temperature(n, lent),
         Name::TemperatureF64 => assembly::temperature_f64(n, lent),
         Name::Elements => assembly::elements(n, lent),
-        Name::Version | Name::Fresh | Name::NoMarks => {
+        Name::Version | Name::Fresh | Name::FreshAssembly => {
             unreachable!("they cannot be refused")
         }
     }

@@ -174,10 +174,23 @@ impl Maker {
         Asked::planned(Call::new(name, &numbers, lent), faults)
     }
 
-    /// A line with a segment, for the assembly. Gives the segment too.
-    pub fn line_with_segment(&mut self, faults: &Faults, short: bool) -> (Lent, usize) {
+    /// A line with a segment and with the numbers of its tables, for the
+    /// assembly. Gives the segment and the numbers too: the calibration table
+    /// ID and the MANAM revision.
+    pub fn line_with_segment(&mut self, faults: &Faults, short: bool) -> (Lent, usize, [u16; 2]) {
         let mut line = self.good_line();
         let segment = self.put_segment(&mut line, faults.has(7));
-        (self.sealed(line, faults, short), segment)
+        let tables = [self.table_number(), self.table_number()];
+        for (place, number) in [28, 30].into_iter().zip(tables) {
+            places(&mut line, place, place + 1).copy_from_slice(&number.to_be_bytes());
+        }
+        (self.sealed(line, faults, short), segment, tables)
+    }
+
+    /// A number of two bytes.
+    pub fn table_number(&mut self) -> u16 {
+        let any = self.dice.number() as u16;
+        self.dice
+            .pick(&[0, 1, 0x00FF, 0x0100, 0xFF00, 0xFFFF, any, any])
     }
 }

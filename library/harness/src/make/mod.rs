@@ -14,6 +14,8 @@ mod recording;
 mod sector;
 mod wild;
 
+pub use assembly::goes_by;
+
 use crate::call::Call;
 use crate::dice::Dice;
 use crate::faults::Faults;
@@ -82,7 +84,7 @@ impl Maker {
             Name::Stepped => self.stepped(faults),
             Name::Step => self.step(faults),
             Name::PutSync => self.put_sync(faults),
-            Name::Version | Name::Fresh | Name::NoMarks => {
+            Name::Version | Name::Fresh | Name::FreshAssembly => {
                 Asked::planned(Call::new(name, &[], vec![]), faults)
             }
             Name::Read => self.read(faults),
@@ -110,6 +112,7 @@ impl Maker {
                 self.field(name, faults)
             }
             Name::AddSegment => self.add_segment(faults),
+            Name::Revision => self.revision(faults),
             Name::Mapping => self.mapping(faults),
             Name::Albedo | Name::AlbedoF64 | Name::Temperature | Name::TemperatureF64 => {
                 self.level(name, faults)
@@ -123,17 +126,18 @@ impl Maker {
 /// takes milliseconds for whole lines, so these calls are the rarer ones.
 fn weight(name: Name) -> usize {
     match name {
-        Name::Version | Name::Fresh | Name::NoMarks => 1,
+        Name::Version | Name::Fresh | Name::FreshAssembly => 1,
         Name::WriteLine | Name::Strip | Name::Answers => 4,
         Name::Joined | Name::PutSync | Name::Format => 10,
         Name::PutData | Name::PutPixels | Name::PutPixelsWide => 12,
         Name::Accepted | Name::Data | Name::Pixels | Name::PixelsWide => 20,
         Name::Stepped | Name::Step | Name::LineNumbers => 20,
         Name::Filler | Name::ScanMode | Name::ScannerSelect | Name::SubCommutation => 30,
-        Name::Date | Name::AddSegment => 40,
+        Name::Date | Name::Revision => 40,
         Name::IntegerField | Name::BcdField | Name::RealField | Name::F64Field => 30,
         Name::Mapping | Name::Albedo | Name::AlbedoF64 => 40,
         Name::Temperature | Name::TemperatureF64 | Name::Elements => 40,
+        Name::AddSegment => 60,
         Name::ReadInteger | Name::ReadBcd | Name::ReadReal | Name::ReadF64 => 60,
         Name::PutReal => 80,
         Name::Read => 180,

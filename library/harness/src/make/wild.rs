@@ -57,6 +57,9 @@ impl Maker {
                 let one = 1 << self.dice.under(32);
                 self.dice.pick(&[0, all, all, all ^ one, any])
             }
+            // what some of the good lines have
+            ("calibration", _) => self.dice.pick(&[0, 2_101, 2_102, 0xFFFF, any]),
+            ("manam", _) => self.dice.pick(&[0, 731, 732, 0xFFFF, any]),
             (_, 8) => {
                 let low = self.dice.under(16) as u64;
                 self.dice.pick(&[low, low, low, any])

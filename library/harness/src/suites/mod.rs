@@ -1,11 +1,13 @@
 //! The fixed suites: what chance alone would hardly make.
 
+mod assembling;
 mod blocks;
 pub mod fillers;
 mod reading;
 mod recordings;
 mod sets;
 mod sweeps;
+pub mod tables;
 pub mod tails;
 
 use crate::bench::{Bench, Difference};
@@ -20,6 +22,7 @@ pub fn run(bench: &mut Bench, maker: &mut Maker, rounds: u64) -> Result<(), Diff
         recordings::run(bench, maker)?;
         tails::run(bench, maker)?;
         blocks::run(bench, maker)?;
+        tables::run(bench, maker)?;
         fillers::run(bench, maker, round == 1)?;
     }
     Ok(())

@@ -120,7 +120,7 @@ impl Recordings<'_> {
         }
         let found = self.play(&received, longest)?;
         let found = found.into_iter().map(|line| line.bytes);
-        let sent = (0..LINES as u64).map(|k| pattern::line(format, k).expect("format 1 or 2"));
+        let sent = (0..LINES as u64).map(|k| pattern::line(format, k, 0).expect("format 1 or 2"));
         match found.eq(sent) {
             true => Ok(()),
             false => Err(Difference(format!(

@@ -16,12 +16,12 @@ use Rattle.entries.proofs.mapping.mapping.Statement.{statement}
 use Rattle.entries.proofs.mapping.mapping.Tie as tie
 
 refusal : (c : tie.After-entry-refusal) → let a = c .before .before .before .before .before .args in
-    c .entry-refusal .result ≡ mappingRefusal (a .format) (a .marks) (a .row) (a .column) (length (now (a .block)))
+    c .entry-refusal .result ≡ mappingRefusal (a .format) (a .assembly .marks) (a .row) (a .column) (length (now (a .block)))
 unfolding gridRefusal
 refusal c =
     let a = c .before .before .before .before .before .args in
     c .entry-refusal .ensures
-    ∙ ap (λ (n : ℕ). entryRefusal (a .format) (a .marks) mapping 0 n (length (now (a .block)))) (c .before .first .ensures ∙ ap₂ first (c .before .before .before .outside .ensures) (c .before .before .outside2 .ensures))
+    ∙ ap (λ (n : ℕ). entryRefusal (a .format) (a .assembly .marks) mapping 0 n (length (now (a .block)))) (c .before .first .ensures ∙ ap₂ first (c .before .before .before .outside .ensures) (c .before .before .outside2 .ensures))
 
 -- what `grid_at` asks
 asks : (c : tie.Else1) → let a = c .before .before .before .before .before .before .args in (a .row ≤ 24) × (a .column ≤ 24) × (2500 ≤ length (now (a .block)))

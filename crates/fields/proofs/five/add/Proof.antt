@@ -7,43 +7,43 @@ use Rattle.fields.proofs.five.add.Statement.{statement}
 use Rattle.fields.proofs.five.add.Tie as tie
 
 abbrev Inv-loop : tie.InvT-loop
-Inv-loop format plain room₀ places all₀ i₀ number₀ room all i number = (i ≤ 5) × (length room ≡ length room₀)
+Inv-loop format d plain room₀ kept₀ number₀ room kept number = (number ≤ 6) × (length room ≡ length room₀)
 
 abbrev μ-loop : tie.MeasureT-loop
-μ-loop format plain room₀ places all₀ i₀ number₀ room all i number = 5 - i
+μ-loop format d plain room₀ kept₀ number₀ room kept number = 6 - number
 
 loop-holds : tie.Need-loop-holds Inv-loop μ-loop
 loop-holds c = search needs
 
-mul-within : tie.Need-mul-within Inv-loop μ-loop
-mul-within c = search needs
+cast-i : tie.Need-cast-i Inv-loop μ-loop
+cast-i c = search needs
 
-array-read-within : tie.Need-array-read-within Inv-loop μ-loop
-array-read-within c = search needs
+mul-one : tie.Need-mul-one Inv-loop μ-loop
+mul-one c = search needs
 
-add-within : tie.Need-add-within Inv-loop μ-loop
-add-within c = search needs
+array-copy-out-one : tie.Need-array-copy-out-one Inv-loop μ-loop
+array-copy-out-one c = search needs
 
-mul-within-2 : tie.Need-mul-within-2 Inv-loop μ-loop
-mul-within-2 c = search needs
+one-requires : tie.Need-one-requires Inv-loop μ-loop
+one-requires c κs = search needs
 
-array-read-within-2 : tie.Need-array-read-within-2 Inv-loop μ-loop
-array-read-within-2 c = search needs
+mul-kept : tie.Need-mul-kept Inv-loop μ-loop
+mul-kept c = search needs
 
-within-requires : tie.Need-within-requires Inv-loop μ-loop
-within-requires c κs = search needs
+array-set-from-kept : tie.Need-array-set-from-kept Inv-loop μ-loop
+array-set-from-kept c = search needs
 
-add-i : tie.Need-add-i Inv-loop μ-loop
-add-i c = search needs
-
-wrapping-add-u8-requires : tie.Need-wrapping-add-u8-requires Inv-loop μ-loop
-wrapping-add-u8-requires c κs = search needs
+add-number : tie.Need-add-number Inv-loop μ-loop
+add-number c = search needs
 
 loop-less : tie.Need-loop-less Inv-loop μ-loop
 loop-less c = search needs
 
 loop-again : tie.Need-loop-again Inv-loop μ-loop
 loop-again c = search needs
+
+wrapping-add-u64-requires : tie.Need-wrapping-add-u64-requires Inv-loop μ-loop
+wrapping-add-u64-requires c κs = search needs
 
 same-length : tie.Need-same-length Inv-loop μ-loop
 same-length c = search needs
@@ -58,15 +58,15 @@ add-spec =
     Inv-loop
     μ-loop
     loop-holds
-    mul-within
-    array-read-within
-    add-within
-    mul-within-2
-    array-read-within-2
-    within-requires
-    add-i
-    wrapping-add-u8-requires
+    cast-i
+    mul-one
+    array-copy-out-one
+    one-requires
+    mul-kept
+    array-set-from-kept
+    add-number
     loop-less
     loop-again
+    wrapping-add-u64-requires
     same-length
     returns)

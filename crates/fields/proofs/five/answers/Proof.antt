@@ -5,10 +5,10 @@ use Rattle.fields.proofs.five.answers.Statement.{statement}
 use Rattle.fields.proofs.five.answers.Tie as tie
 
 abbrev Inv-loop : tie.InvT-loop
-Inv-loop told all₀ i₀ t7 all i = i ≤ 5
+Inv-loop kept all₀ i₀ all i = i ≤ 6
 
 abbrev μ-loop : tie.MeasureT-loop
-μ-loop told all₀ i₀ t7 all i = 5 - i
+μ-loop kept all₀ i₀ all i = 6 - i
 
 slice-aggregate-words : tie.Need-slice-aggregate-words Inv-loop μ-loop
 slice-aggregate-words c = search needs
@@ -19,20 +19,14 @@ words-requires c κs = search needs
 loop-holds : tie.Need-loop-holds Inv-loop μ-loop
 loop-holds c = search needs
 
-slice-aggregate-words-2 : tie.Need-slice-aggregate-words-2 Inv-loop μ-loop
-slice-aggregate-words-2 c = search needs
+mul-spaced : tie.Need-mul-spaced Inv-loop μ-loop
+mul-spaced c = search needs
 
-words-requires-2 : tie.Need-words-requires-2 Inv-loop μ-loop
-words-requires-2 c κs = search needs
+element-copy-out-spaced : tie.Need-element-copy-out-spaced Inv-loop μ-loop
+element-copy-out-spaced c = search needs
 
-array-read-wide : tie.Need-array-read-wide Inv-loop μ-loop
-array-read-wide c = search needs
-
-wide-requires : tie.Need-wide-requires Inv-loop μ-loop
-wide-requires c κs = search needs
-
-number-requires : tie.Need-number-requires Inv-loop μ-loop
-number-requires c κs = search needs
+spaced-requires : tie.Need-spaced-requires Inv-loop μ-loop
+spaced-requires c κs = search needs
 
 add-i : tie.Need-add-i Inv-loop μ-loop
 add-i c = search needs
@@ -55,11 +49,9 @@ answers-spec =
     slice-aggregate-words
     words-requires
     loop-holds
-    slice-aggregate-words-2
-    words-requires-2
-    array-read-wide
-    wide-requires
-    number-requires
+    mul-spaced
+    element-copy-out-spaced
+    spaced-requires
     add-i
     loop-less
     loop-again

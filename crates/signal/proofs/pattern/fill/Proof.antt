@@ -7,10 +7,13 @@ use Rattle.signal.proofs.pattern.fill.Statement.{statement}
 use Rattle.signal.proofs.pattern.fill.Tie as tie
 
 abbrev Inv-loop : tie.InvT-loop
-Inv-loop format k line₀ small s₀ line s = (s ≤ 12) × (length line ≡ length line₀)
+Inv-loop format k t line₀ small s₀ line s = (s ≤ 12) × (length line ≡ length line₀)
 
 abbrev μ-loop : tie.MeasureT-loop
-μ-loop format k line₀ small s₀ line s = 12 - s
+μ-loop format k t line₀ small s₀ line s = 12 - s
+
+since-requires : tie.Need-since-requires Inv-loop μ-loop
+since-requires c κs = search needs
 
 put-doc-requires : tie.Need-put-doc-requires Inv-loop μ-loop
 put-doc-requires c κs = search needs
@@ -45,6 +48,7 @@ fill-spec =
     (tie.spec
     Inv-loop
     μ-loop
+    since-requires
     put-doc-requires
     loop-holds
     put-sector-requires

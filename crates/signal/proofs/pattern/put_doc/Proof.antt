@@ -7,10 +7,10 @@ use Rattle.signal.proofs.pattern.put_doc.Statement.{statement}
 use Rattle.signal.proofs.pattern.put_doc.Tie as tie
 
 abbrev Inv-loop : tie.InvT-loop
-Inv-loop format k line data₀ i₀ «data» i = (i ≤ 2291) × (length «data» ≡ 2291)
+Inv-loop format k r line data₀ i₀ «data» i = (i ≤ 2291) × (length «data» ≡ 2291)
 
 abbrev μ-loop : tie.MeasureT-loop
-μ-loop format k line data₀ i₀ «data» i = 2291 - i
+μ-loop format k r line data₀ i₀ «data» i = 2291 - i
 
 loop-holds : tie.Need-loop-holds Inv-loop μ-loop
 loop-holds c = search needs
