@@ -22,6 +22,7 @@ use Rattle.blocks.specs.Marking.{noMarks, marked}
 use Rattle.blocks.specs.Record.{started, revisionOf}
 use Rattle.blocks.proofs.Rows.{sound}
 use Rattle.revisions.specs.Carried.{revisionsIn, foreign, foreignRefusal, remembered}
+use Rattle.revisions.proofs.Ways.{remembered-own}
 use Rattle.segments.specs.declared.Added.the-variants.{Refused}
 use Rattle.segments.specs.Assembly.{segmentOf, differs, copyRefusal, placeRefusal, marksWith, assemblyWith, placedOn, blockWith, segmentIn, carriedRefusal, addSegmentRefusal, assemblyAfter, addSegmentAnswer, addSegmentLeft}
 use Rattle.segments.proofs.Known.{Carries, carries}
@@ -39,24 +40,6 @@ marked-started a s h = by (eqb (a .marks .segments) 0) refl
     by : (t : Bool) → eqb (a .marks .segments) 0 ≡ t → not t ≡ true
     by false e = refl
     by true e = absurd (true≢false (sym h ∙ ap (λ (k : ℕ). marked (record { segments = k }) s) (eqb-true (a .marks .segments) 0 e) ∙ marked-none s))
-
--- the numbers that are remembered: as they were, or the line's
-pub remembered-kept : (a : Assembly) (c : Revisions) → started a ≡ true → remembered a c ≡ a .revisions
-unfolding remembered
-remembered-kept a c h = rw h
-
-pub remembered-new : (a : Assembly) (c : Revisions) → started a ≡ false → remembered a c ≡ c
-unfolding remembered
-remembered-new a c h = rw h
-
--- where the line is not foreign, the block's revision is then the line's
-pub remembered-own : (n : ℕ) (a : Assembly) (c : Revisions) → foreign n a c ≡ false → revisionOf n (remembered a c) ≡ revisionOf n c
-unfolding foreign
-remembered-own n a c = by (started a) refl
-  where
-    by : (t : Bool) → started a ≡ t → (t && not (eqb (revisionOf n (a .revisions)) (revisionOf n c))) ≡ false → revisionOf n (remembered a c) ≡ revisionOf n c
-    by true h e = ap (revisionOf n) (remembered-kept a c h) ∙ eqb-true (revisionOf n (a .revisions)) (revisionOf n c) (not-false (eqb (revisionOf n (a .revisions)) (revisionOf n c)) e)
-    by false h e = ap (revisionOf n) (remembered-new a c h)
 
 -- ---- record and block
 

@@ -14,7 +14,8 @@ use Rattle.blocks.specs.Marking.{marked}
 use Rattle.revisions.specs.Carried.{revisionsIn, foreign, foreignRefusal}
 use Rattle.segments.specs.declared.Added.the-variants as added
 use Rattle.segments.specs.Assembly.{segmentOf, differs, copyRefusal, placeRefusal, marksWith, assemblyWith, placed, placeAnswer, blockWith, placeLeft}
-use Rattle.assemblies.proofs.Advance.{marked-started, remembered-kept}
+use Rattle.revisions.proofs.Ways.{remembered-kept}
+use Rattle.assemblies.proofs.Advance.{marked-started}
 
 module _ (n : ℕ) (a : Assembly) (line : List ℕ) (s : ℕ) (block : List ℕ) where
   abbrev stored : List ℕ

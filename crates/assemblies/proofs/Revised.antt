@@ -25,7 +25,8 @@ use Rattle.calibration.specs.declared.Levels.{Levels}
 use Rattle.calibration.specs.Tables.{leveled, levelAnswer, leveledF64, levelF64Answer}
 use Rattle.calibration.proofs.Revised.{level-revision, level-f64-revision}
 use Rattle.assemblies.specs.Runs.{State, begun, answerTo, step, run, taken, Taken, takenLines, firstWith, named, All, OneRevision}
-use Rattle.assemblies.proofs.Advance.{Advanced, advances, marked-started, remembered-kept}
+use Rattle.assemblies.proofs.Advance.{Advanced, advances, marked-started}
+use Rattle.revisions.proofs.Ways.{remembered-kept}
 use Rattle.assemblies.proofs.Skips.{step-refused, skips-refused, taken-lines, finished-any}
 
 -- what holds of every line holds of the first that names a segment

@@ -1,14 +1,11 @@
 -- 14 EXACTLY: of a line that carries a segment (nothing above 14 refuses it), where some segment is stored and the block goes by
 -- another number in the line than in the assembly; be the line's segment stored or not, and its bytes equal or not. Assumes
 -- nothing.
-use mathlib.Core.Bool.{Bool, true, false, true≢false, not, _&&_, and-false}
 use mathlib.Core.List.{List, [], _∷_}
 use mathlib.Core.Logic.{_↔_}
 use mathlib.Core.Path.{_≡_, refl, sym, _∙_}
 use Prim.Native.Nat.{ℕ}
 use native.Mathlib.Omega.{arith}
-use borrow.Author.Tests.{eq-eqb, ne-eqb}
-use lib.Dec.{eqb}
 use lib.ListN.{length}
 use Rattle.refusals.proofs.Exactly.{exactly}
 use Rattle.refusals.proofs.Words.{kept-none}
@@ -17,27 +14,13 @@ use Rattle.numbers.specs.declared.Integer.{Integer}
 use Rattle.numbers.specs.Integers.{integerNumber, integerValue}
 use Rattle.document.specs.Place.{docPart, docFrom}
 use Rattle.document_fields.specs.Fields.{IntegerFieldOk}
-use Rattle.blocks.specs.declared.assembly.Revisions.{Revisions}
 use Rattle.blocks.specs.declared.assembly.Assembly.{Assembly}
-use Rattle.blocks.specs.Record.{started, revisionOf}
+use Rattle.blocks.specs.Record.{revisionOf}
 use Rattle.revisions.specs.Carried.{revisionsIn, foreign}
+use Rattle.revisions.proofs.Ways.{foreign-when}
 use Rattle.segments.specs.Assembly.{carriedRefusal, addSegmentRefusal}
 use Rattle.demands.specs.Orders.{carriedTests, copyTest}
 use Rattle.demands.proofs.Orders.{orders, carried-when}
-
--- a foreign revision in plain words
-foreign-when : (n : ℕ) (a : Assembly) (c : Revisions) → (foreign n a c ≡ true) ↔ ((a .marks .segments ≡ 0 → ⊥) × (revisionOf n (a .revisions) ≡ revisionOf n c → ⊥))
-unfolding foreign started
-foreign-when n a c = (
-  λ e. (λ z. true≢false (sym e ∙ unstored z), λ same. true≢false (sym e ∙ own same)),
-  λ h. rw (ne-eqb (a .marks .segments) 0 (h .0), ne-eqb (revisionOf n (a .revisions)) (revisionOf n c) (h .1)) refl,
-)
-  where
-    unstored : a .marks .segments ≡ 0 → (not (eqb (a .marks .segments) 0) && not (eqb (revisionOf n (a .revisions)) (revisionOf n c))) ≡ false
-    unstored z = rw (eq-eqb (a .marks .segments) 0 z)
-
-    own : revisionOf n (a .revisions) ≡ revisionOf n c → (not (eqb (a .marks .segments) 0) && not (eqb (revisionOf n (a .revisions)) (revisionOf n c))) ≡ false
-    own e = rw (eq-eqb (revisionOf n (a .revisions)) (revisionOf n c) e) (and-false (not (eqb (a .marks .segments) 0)))
 
 -- THE NUMBERS OF A LINE are those that `integer_field` reads, as I*2 at bytes 28 and 30
 pub by-fields : (f : ℕ) (line : List ℕ) (r s : Integer) → IntegerFieldOk f line 28 2 r → IntegerFieldOk f line 30 2 s → integerNumber r ≡ 0 → integerNumber s ≡ 0

@@ -23,7 +23,9 @@ from-now-on : (c : tie.After-remembered) → let a = c .before .before .before .
     c .remembered .result ≡ remembered (a .assembly) (revisionsIn (now (a .line)))
 from-now-on c =
     let a = c .before .before .before .before .before .before .before .args in
-    c .remembered .ensures ∙ ap (remembered (a .assembly)) (c .before .before .before .before .revisions-in .ensures)
+    let line = c .before .before .before .before in
+    let told : c .remembered .result ≡ remembered (a .assembly) (line .revisions-in .result) = c .remembered .ensures in
+    told ∙ ap (remembered (a .assembly)) (line .revisions-in .ensures)
 
 revisions-in-requires : tie.Need-revisions-in-requires
 revisions-in-requires c κs = c .before .before .pre .long
