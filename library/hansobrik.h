@@ -43,10 +43,10 @@ _Static_assert(sizeof(size_t) == 8, "hansobrik: the library is made for machines
 /* ---- the version of this header ---- */
 
 #define HANSOBRIK_VERSION_MAJOR 0
-#define HANSOBRIK_VERSION_MINOR 4
+#define HANSOBRIK_VERSION_MINOR 5
 #define HANSOBRIK_VERSION_PATCH 0
 #define HANSOBRIK_VERSION (HANSOBRIK_VERSION_MAJOR * 10000 + HANSOBRIK_VERSION_MINOR * 100 + HANSOBRIK_VERSION_PATCH)
-#define HANSOBRIK_VERSION_TEXT "0.4.0"
+#define HANSOBRIK_VERSION_TEXT "0.5.0"
 
 /* ---- refusal numbers, in the order in which they are tested ---- */
 
@@ -252,8 +252,8 @@ typedef struct {
     uint8_t refused;
     uint16_t line;
     uint16_t pixel;
-    int16_t latitude;      /* degrees north */
-    int16_t longitude;     /* degrees east */
+    int16_t latitude;      /* degrees north; south is below 0 */
+    int16_t longitude;     /* degrees east, above -180 and at most 180; west is below 0 */
 } hansobrik_grid_answer;
 
 typedef struct {
@@ -448,7 +448,8 @@ hansobrik_add_answer hansobrik_add_segment(uint8_t format, hansobrik_assembly as
 hansobrik_revision_answer hansobrik_revision(uint8_t format, hansobrik_assembly assembly, uint8_t number, const uint8_t *block,
                                              size_t block_count);
 
-/* A point of a finished mapping block, row and column 0 to 24. Needs in block: MAPPING_BYTES.
+/* A point of a finished mapping block, row and column 0 to 24, five degrees apart: rows from 60 north to 60 south, columns from
+ * 45 to 165 east in S_VISSR and from 80 east to 160 west in HIRID. Needs in block: MAPPING_BYTES.
  * Refused: FORMAT, STATE, RANGE, SHORT_INPUT, UNFINISHED. */
 hansobrik_grid_answer hansobrik_mapping(uint8_t format, hansobrik_assembly assembly, const uint8_t *block, size_t block_count,
                                         uint16_t row, uint16_t column);

@@ -704,4 +704,46 @@ static hansobrik_assembly wrong(void)
     return a;
 }
 #define hansobrik_fresh_assembly wrong
+#elif FAULT >= 66 && FAULT <= 74
+static hansobrik_grid_answer wrong(uint8_t f, hansobrik_assembly k, BYTES, uint16_t x, uint16_t y)
+{
+    hansobrik_grid_answer a = hansobrik_mapping(f, k, p, c, x, y);
+#if FAULT == 74 /* a refused point of HiRID has a longitude */
+    if (a.refused && f == HANSOBRIK_HIRID)
+        a.longitude = 80;
+#else
+    if (a.refused)
+        return a;
+#endif
+#if FAULT == 66 /* 180 is given as west */
+    if (a.longitude == 180)
+        a.longitude = -180;
+#elif FAULT == 67 /* 80 in both formats */
+    if (f == HANSOBRIK_S_VISSR)
+        a.longitude = (int16_t)(a.longitude + (a.longitude > 145 ? 35 - 360 : 35));
+#elif FAULT == 68 /* 45 in both formats, as it was */
+    if (f == HANSOBRIK_HIRID)
+        a.longitude = (int16_t)(45 + 5 * y);
+#elif FAULT == 69 /* 180 less the degrees, for the degrees less 360 */
+    if (a.longitude < 0)
+        a.longitude = (int16_t)(180 - (a.longitude + 360));
+#elif FAULT == 70 /* the latitude is shifted too */
+    if (f == HANSOBRIK_HIRID)
+        a.latitude = (int16_t)(a.latitude + 35);
+#elif FAULT == 71 /* west by the format and not by the degrees */
+    if (f == HANSOBRIK_HIRID && a.longitude > 0)
+        a.longitude = (int16_t)(a.longitude - 360);
+#elif FAULT == 72 /* degrees above 180 stay east */
+    if (a.longitude < 0)
+        a.longitude = (int16_t)(a.longitude + 360);
+#elif FAULT == 73 /* HiRID's bytes are read seven columns on, which are 35 degrees */
+    if (f == HANSOBRIK_HIRID) {
+        hansobrik_grid_answer on = hansobrik_mapping(f, k, p, c, x, y + 7 <= 24 ? y + 7 : 24);
+        a.line = on.line;
+        a.pixel = on.pixel;
+    }
+#endif
+    return a;
+}
+#define hansobrik_mapping wrong
 #endif

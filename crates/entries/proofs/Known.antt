@@ -5,13 +5,13 @@ use Prim.Native.Nat.{ℕ, _≤_}
 use native.Mathlib.Omega.{arith}
 use lib.Dec.{eqb}
 use borrow.Author.Tests.{eqb-true, not-false}
-use Rattle.refusals.specs.Refusals.{first, when, shortOf}
-use Rattle.refusals.proofs.Words.{first-none, none-first, none-second, none-when, enough}
+use Rattle.refusals.specs.Refusals.{first, when, shortOf, outsideOf}
+use Rattle.refusals.proofs.Words.{first-none, none-first, none-second, none-when, enough, inside}
 use Rattle.formats.specs.Formats.{formatRefusal}
 use Rattle.blocks.specs.declared.marks.Marks.{Marks}
-use Rattle.blocks.specs.Blocks.{blockOf, blockRefusal}
+use Rattle.blocks.specs.Blocks.{blocks, blockOf, mapping, blockRefusal}
 use Rattle.blocks.specs.Marking.{allMarks, marksRefusal, unfinishedRefusal}
-use Rattle.entries.specs.Entries.{entryRefusal}
+use Rattle.entries.specs.Entries.{entryRefusal, gridRefusal, mappingRefusal}
 
 -- WHAT IS KNOWN ONCE AN ENTRY IS GIVEN: the channel is served, the point in range, the block whole and finished
 pub record Given (m : Marks) (n channel range given : ℕ) : Type 0 where
@@ -48,3 +48,21 @@ entry-too f m n channel range len channel′ range′ e c r =
     let known : block ≡ 0 = none-first block channel (none-first (first block channel) range (none-first (first (first block channel) range) whole rest)) in
     let named : first (first block channel′) range′ ≡ 0 = first-none (first block channel′) range′ (first-none block channel′ known ∙ c) ∙ r in
     first-none asked _ (none-first asked _ e) ∙ first-none (first (first block channel′) range′) whole named ∙ none-second (first (first block channel) range) whole rest
+
+-- WHAT IS KNOWN ONCE A POINT IS GIVEN
+pub record InGrid (i j len : ℕ) : Type 0 where
+  pub row : i ≤ 24
+  pub column : j ≤ 24
+  pub room : 2500 ≤ len
+
+pub in-grid : (f : ℕ) (m : Marks) (i j len : ℕ) → mappingRefusal f m i j len ≡ 0 → InGrid i j len
+unfolding gridRefusal blockOf blocks
+in-grid f m i j len e =
+    let h = given f m mapping 0 (gridRefusal i j) len e in
+    let rows : ℕ = outsideOf 0 24 i 10 in
+    let columns : ℕ = outsideOf 0 24 j 10 in
+    record {
+      row = inside 0 24 i 10 (λ z. omega arith) (none-first rows columns (h .ranged)) .high;
+      column = inside 0 24 j 10 (λ z. omega arith) (none-second rows columns (h .ranged)) .high;
+      room = h .room;
+    }

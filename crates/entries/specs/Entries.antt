@@ -1,8 +1,10 @@
 -- The entries of a finished block: its revision, the points of the mapping grid and the orbital elements.
 -- Places count bytes of the block from 1. Refusals stand in the order in which they are tested. Assumes nothing.
 use Prim.Native.Nat.{ℕ, _+_, _*_, _-_}
+use mathlib.Core.Bool.{cond}
 use mathlib.Core.List.{List}
 use mathlib.Core.Path.{_≡_}
+use lib.Dec.{eqb, ltb}
 use lib.Ieee as Ieee
 use lib.IntN.{ℤ, pos, _-ℤ_}
 use lib.ListN.{length}
@@ -69,12 +71,17 @@ gridPlace i j = 100 * i + 4 * j + 1
 abbrev pub latitudeOf : ℕ → ℤ
 latitudeOf i = pos 60 -ℤ pos (5 * i)
 
--- degrees east; the first column of a format
+-- degrees east of the first column: 80 in format 2, 45 in every other
 unfoldable pub firstLongitude : ℕ → ℕ
-firstLongitude f = 45
+firstLongitude f = cond (eqb f 2) 80 45
 
+-- longitudes above 180 are given as west, which is below 0; 180 itself is not above 180
+unfoldable pub westAbove180 : ℕ → ℤ
+westAbove180 d = cond (ltb 180 d) (pos d -ℤ pos 360) (pos d)
+
+-- degrees east
 abbrev pub longitudeOf : ℕ → ℕ → ℤ
-longitudeOf f j = pos (firstLongitude f + 5 * j)
+longitudeOf f j = westAbove180 (firstLongitude f + 5 * j)
 
 unfoldable pub gridAt : ℕ → List ℕ → ℕ → ℕ → Grid
 gridAt f block i j = record {

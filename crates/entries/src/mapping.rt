@@ -2,14 +2,15 @@
 ghost use mathlib.Core.Path.{_≡_};
 ghost use Prim.Native.Nat.{_+_, _≤_};
 ghost use lib.ListN.{length};
-ghost use Rattle.entries.specs.Entries.{latitudeOf, firstLongitude, longitudeOf, gridAt, MappingOk};
+ghost use Rattle.entries.specs.Entries.{latitudeOf, firstLongitude, westAbove180, longitudeOf, gridAt, MappingOk};
 use crate::entry::entry_refusal;
 use blocks::assembly::Assembly;
 use blocks::block::MAPPING;
 use octets::integer_at;
 use refusals::first;
 
-// A point of the grid: the image line and pixel at a latitude in degrees north and a longitude in degrees east.
+// A point of the grid: the image line and pixel at a latitude in degrees north and a longitude in degrees east. South and west
+// are below 0.
 pub struct Grid {
     pub line: u16,
     pub pixel: u16,
@@ -35,11 +36,26 @@ fn latitude(row: u16) -> i16
     60 - (below as i16)
 }
 
-// The longitude of the first column, degrees east. Both formats begin at 45.
+// The longitude of the first column, degrees east: HiRID begins at 80, every other format at 45.
 fn first_longitude(format: u8) -> u16
-    ensures { λ r. ⌜ (r ≡ firstLongitude format) × (r ≤ 80) ⌝ }
+    ensures { λ r. ⌜ r ≡ firstLongitude format ⌝ }
 {
-    45
+    match format {
+        2 => 80,
+        _ => 45,
+    }
+}
+
+// Inner. Longitudes above 180 are given as west.
+fn west_above_180(east: u16) -> i16
+    requires { ⌜ east ≤ 360 ⌝ }
+    ensures { λ r. ⌜ r ≡ westAbove180 east ⌝ }
+{
+    let degrees = east as i16;
+    if east > 180 {
+        return degrees - 360;
+    }
+    degrees
 }
 
 // Inner. The longitude of a column.
@@ -47,7 +63,7 @@ fn longitude(format: u8, column: u16) -> i16
     requires { ⌜ column ≤ 24 ⌝ }
     ensures { λ r. ⌜ r ≡ longitudeOf format column ⌝ }
 {
-    (first_longitude(format) + 5 * column) as i16
+    west_above_180(first_longitude(format) + 5 * column)
 }
 
 // Inner. The point of a row and a column.

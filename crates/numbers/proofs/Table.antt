@@ -6,15 +6,17 @@ use Prim.Native.Nat.{ℕ, zero, suc, _+_, _<_}
 use native.Mathlib.Nat.{add-zero, zero-add, add-suc, suc-add, le-of-suc-le-suc, not-suc-le-zero}
 use lib.ListN.{getD}
 
--- f at i, i + 1 and so on, n values
-abbrev pub listed : (ℕ → ℕ) → ℕ → ℕ → List ℕ
-listed f i zero = []
-listed f i (suc n) = f i ∷ listed f (suc i) n
+module _ {A : Type 0} (f : ℕ → A) where
+  -- f at i, i + 1 and so on, n values
+  abbrev pub listed : ℕ → ℕ → List A
+  listed i zero = []
+  listed i (suc n) = f i ∷ listed (suc i) n
 
-from : (f : ℕ → ℕ) (i n k : ℕ) → k < n → getD (listed f i n) k 0 ≡ f (i + k)
-from f i zero k h = absurd (not-suc-le-zero h)
-from f i (suc n) zero h = ap f (sym (add-zero i))
-from f i (suc n) (suc k) h = from f (suc i) n k (le-of-suc-le-suc h) ∙ ap f (suc-add i k ∙ sym (add-suc i k))
+  module _ (d : A) where
+    from : (i n k : ℕ) → k < n → getD (listed i n) k d ≡ f (i + k)
+    from i zero k h = absurd (not-suc-le-zero h)
+    from i (suc n) zero h = ap f (sym (add-zero i))
+    from i (suc n) (suc k) h = from (suc i) n k (le-of-suc-le-suc h) ∙ ap f (suc-add i k ∙ sym (add-suc i k))
 
-pub listed-at : (f : ℕ → ℕ) (n k : ℕ) → k < n → getD (listed f 0 n) k 0 ≡ f k
-listed-at f n k h = from f 0 n k h ∙ ap f (zero-add k)
+    pub listed-at : (n k : ℕ) → k < n → getD (listed 0 n) k d ≡ f k
+    listed-at n k h = from 0 n k h ∙ ap f (zero-add k)

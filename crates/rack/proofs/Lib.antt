@@ -8,3 +8,4 @@ pub mod Iced
 pub mod Zeros
 pub mod UniqueAcross
 pub mod Assembled
+pub mod Grid

@@ -1,4 +1,4 @@
-// The library for the board, as a whole: there is no code here. Its calls, for C and Rust, are those of six crates, and
+// The library for the board, as a whole: there is no code here. Its calls, for C and Rust, are those of seven crates, and
 // `library/build` makes one archive of them:
 //
 //   rack_ground     the version; formats, register, SYNC
@@ -6,7 +6,8 @@
 //   rack_sector     the twelve sectors of one plain line, read and written
 //   rack_number     the numbers of the documentation fields; the answers that the others give too
 //   rack_document   the fields of the documentation sector
-//   rack_blocks     blocks out of segments, and the entries of a finished block
+//   rack_blocks     blocks out of segments, and the revision of a finished one
+//   rack_entries    the entries of a finished block
 //
 // `specs/` and `proofs/` have what is claimed across the boundary, over the definitions of those crates:
 //
@@ -16,5 +17,7 @@
 //   Demand3  demand 3 across the boundary, a to d, as one record
 //   Demand2  demand 2 across the boundary
 //   Iced     which wrong bits in SYNC and dummy cost no line, there too
+//   Assembled  a finished block there is of one revision
+//   Grid     the columns of the mapping grid there are the sources'
 //   Zeros    a refused answer there has its number and 0 elsewhere: one list
 //   UniqueAcross  any two results that a contract there allows are the same: one list

@@ -42,7 +42,7 @@ pub struct StepAnswer {
 pub extern "C" fn hansobrik_version() -> u32
     ensures { λ r. ⌜ r ≡ version ⌝ }
 {
-    400
+    500
 }
 
 // Inner. A format as it crosses the boundary.

@@ -21,6 +21,12 @@
 //! holds, so every user of an entry gets it too. Refusals: 14 for a foreign
 //! revision, tested before 8."
 //!
+//! Document 02, T-04: "The first longitude becomes 45 for format 1 and 80 for
+//! format 2. Longitudes above 180 are given as west, so the last column of
+//! format 2 is 160 west. Grid bytes and refusals stay." With source 001's sample
+//! program, "ILON = 80+(IL2-1)*5", and table A.3, where 80 east is the first
+//! longitude and 160 west the last.
+//!
 //! An assembly is two things the caller keeps: the record [`Assembly`] and the
 //! block buffer. It starts with a record of zeros and any buffer. Blocks are
 //! numbered 1 to 5 as listed.
@@ -187,8 +193,22 @@ pub struct GridPoint {
     pub pixel: u32,
     /// Degrees north.
     pub latitude: i32,
-    /// Degrees east.
+    /// Degrees east; west is negative. Above -180, at most 180.
     pub longitude: i32,
+}
+
+/// The first longitude, degrees east: "45 for format 1 and 80 for format 2".
+fn first_longitude(format_number: usize) -> i32 {
+    [45, 80][format_number - 1]
+}
+
+/// "Longitudes above 180 are given as west": 181 east is 179 west.
+fn given_as_west(east: i32) -> i32 {
+    let west = 360 - east;
+    match east > 180 {
+        true => -west,
+        false => east,
+    }
 }
 
 /// The bytes of a block or a sector from a place on, counted from 1.
@@ -240,7 +260,7 @@ pub fn mapping(
         line: numbers::read_i(from_place(buffer, place), 2)?,
         pixel: numbers::read_i(from_place(buffer, place + 2), 2)?,
         latitude: 60 - 5 * row as i32,
-        longitude: 45 + 5 * column as i32,
+        longitude: given_as_west(first_longitude(format_number) + 5 * column as i32),
     })
 }
 

@@ -132,6 +132,12 @@ fn format_2_has_no_calibration_2() {
     assert_eq!(rows[202], "MANAM 25/25 revision 731");
     assert_eq!(rows[203], "calibration-1 25/25 revision 2101");
     assert_eq!(rows[204], "calibration-2 not in HiRID");
+    // The grid begins at 80 east and ends at 160 west.
+    assert!(rows[205].ends_with(" latitude 60 north longitude 80 east"));
+    assert!(rows[206].ends_with(" latitude 60 north longitude 160 west"));
+    assert!(rows[207].ends_with(" latitude 60 south longitude 80 east"));
+    assert!(rows[208].ends_with(" latitude 60 south longitude 160 west"));
+    assert!(rows[209].ends_with(" latitude 0 north longitude 145 east"));
     assert!(rows[210].starts_with("orbit epoch "));
     assert_eq!(rows[211], "total 200");
 }

@@ -18,7 +18,8 @@ pub struct Added {
 }
 
 /// A point of the mapping grid: image line and pixel, degrees north and
-/// degrees east.
+/// degrees east. South and west are below 0; the longitude is above -180 and at
+/// most 180.
 #[derive(Clone, Copy, Debug, PartialEq, Eq)]
 pub struct GridPoint {
     pub line: u16,
@@ -113,8 +114,11 @@ pub fn revision(format: u8, assembly: Assembly, number: u8, block: &[u8]) -> Res
     unless(a.refused, a.revision)
 }
 
-/// A point of a finished mapping block, row and column 0 to 24. Refused with
-/// FORMAT, STATE, RANGE, SHORT_INPUT, UNFINISHED.
+/// A point of a finished mapping block, row and column 0 to 24, five degrees
+/// apart: rows from 60 north to 60 south, columns from 45 to 165 east in
+/// [`S_VISSR`](crate::S_VISSR) and from 80 east to 160 west in
+/// [`HIRID`](crate::HIRID). Refused with FORMAT, STATE, RANGE, SHORT_INPUT,
+/// UNFINISHED.
 pub fn mapping(
     format: u8,
     assembly: Assembly,

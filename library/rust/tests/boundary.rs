@@ -270,6 +270,21 @@ fn a_block_is_put_together() {
     assert_eq!(refused, Err(Refusal::NUMBER));
 }
 
+/// The columns of the grid: 45 to 165 east, and 80 east to 160 west.
+#[test]
+fn longitudes_go_by_the_format() {
+    let block = vec![0; MAPPING_BYTES];
+    let columns = |format| {
+        let point = |column| mapping(format, finished(0, 0), &block, 0, column).unwrap();
+        Vec::from_iter((0..25).map(|column| point(column).longitude))
+    };
+    let svissr = columns(S_VISSR);
+    assert_eq!(svissr, Vec::from_iter((45..=165).step_by(5)));
+    let hirid = columns(HIRID);
+    assert_eq!(hirid[..21], Vec::from_iter((80..=180).step_by(5)));
+    assert_eq!(hirid[21..], [-175, -170, -165, -160]);
+}
+
 /// The tables change in the middle of a recording: from there on every line is
 /// refused, until the block is begun anew. No block is half of each.
 #[test]

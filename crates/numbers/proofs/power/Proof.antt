@@ -12,7 +12,7 @@ array-read-result : tie.Need-array-read-result
 array-read-result c = search needs
 
 returns : tie.Need-returns
-returns c = listed-at (λ (k : ℕ). 10 ^ k) 16 (c .args .m) (search needs)
+returns c = listed-at (λ (k : ℕ). 10 ^ k) 0 16 (c .args .m) (search needs)
 
 pub power-spec : {M : Type 1} → statement M
 power-spec = tie.close (tie.spec mul-result array-read-result returns)

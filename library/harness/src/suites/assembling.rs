@@ -9,6 +9,8 @@ use crate::call::{Call, Lent, Outcome};
 use crate::make::{goes_by, Asked, Maker};
 use crate::rows::Name;
 
+use super::grid;
+
 /// A line, and what it says.
 pub struct Sent {
     pub line: Vec<u8>,
@@ -187,16 +189,29 @@ impl Assembling {
         Ok(())
     }
 
+    /// A point of the mapping grid: what it must be is known from the block's
+    /// bytes.
+    fn point(&self, bench: &mut Bench, row: u64, column: u64) -> Result<(), Difference> {
+        let outcome = self.entry(bench, Name::Mapping, &[row, column])?;
+        let place = (row as usize, column as usize);
+        let wanted = match self.finished() {
+            true => grid::point(self.format, &self.block, place.0, place.1),
+            false => [0; 4],
+        };
+        match outcome.numbers[1..] == wanted {
+            true => Ok(()),
+            false => Err(self.wrong(&format!("has {:?} at {place:?}", &outcome.numbers[1..]))),
+        }
+    }
+
     /// All calls on the block, finished or not: with every entry, or every so
     /// many.
     pub fn entries(&self, bench: &mut Bench, every: usize) -> Result<(), Difference> {
         self.revised(bench, Name::Revision, &[self.number as u64], 1)?;
         match self.number {
             MAPPING => {
-                for place in (0..625).step_by(every) {
-                    self.entry(bench, Name::Mapping, &[place / 25, place % 25])?;
-                }
-                Ok(())
+                let mut places = (0..625).step_by(every);
+                places.try_for_each(|place| self.point(bench, place / 25, place % 25))
             }
             ORBIT => self.entry(bench, Name::Elements, &[]).map(|_| ()),
             CALIBRATION_2 => (1..=4).try_for_each(|channel| self.levels(bench, channel, every)),

@@ -1,8 +1,9 @@
 //! The fixed suites: what chance alone would hardly make.
 
 mod assembling;
-mod blocks;
+pub mod blocks;
 pub mod fillers;
+pub mod grid;
 mod reading;
 mod recordings;
 mod sets;

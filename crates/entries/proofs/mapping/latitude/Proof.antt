@@ -1,5 +1,5 @@
 -- `entries::mapping::latitude` meets its contract. Assumes nothing.
-use Prim.Native.Nat.{_*_}
+use Prim.Native.Nat.{_*_, _^_, _<_}
 use native.Mathlib.Omega.{arith}
 use Rattle.entries.proofs.Degrees.{sub-fits, sub-is}
 use borrow.Author.Needs.{needs}
@@ -13,7 +13,7 @@ cast-result : tie.Need-cast-result
 cast-result c = search needs
 
 sub-result : tie.Need-sub-result
-sub-result c = sub-fits 60 (5 * c .args .row) (omega arith) (omega arith)
+sub-result c = let small : 5 * c .args .row < 2 ^ 15 = omega arith in search (needs, sub-fits, small)
 
 returns : tie.Need-returns
 returns c = sub-is 60 (5 * c .args .row) (omega arith) (omega arith)

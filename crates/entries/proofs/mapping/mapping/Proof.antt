@@ -1,15 +1,13 @@
 -- `entries::mapping::mapping` meets its contract. Assumes nothing.
 use mathlib.Core.Path.{_≡_, sym, ap, ap₂, _∙_}
 use Prim.Native.Nat.{ℕ, _≤_}
-use native.Mathlib.Omega.{arith}
 use denote.Ref.{now}
 use lib.ListN.{length}
-use Rattle.refusals.specs.Refusals.{first, outsideOf}
-use Rattle.refusals.proofs.Words.{none-first, none-second, inside}
+use Rattle.refusals.specs.Refusals.{first}
 use Rattle.refusals.proofs.Says.{says-some, says-none}
-use Rattle.blocks.specs.Blocks.{blocks, blockOf, mapping}
+use Rattle.blocks.specs.Blocks.{mapping}
 use Rattle.entries.specs.Entries.{entryRefusal, gridRefusal, mappingRefusal}
-use Rattle.entries.proofs.Known.{given}
+use Rattle.entries.proofs.Known.{in-grid}
 use Rattle.entries.proofs.Settled.{points}
 use borrow.Author.Needs.{needs}
 use Rattle.entries.proofs.mapping.mapping.Statement.{statement}
@@ -25,16 +23,10 @@ refusal c =
 
 -- what `grid_at` asks
 asks : (c : tie.Else1) → let a = c .before .before .before .before .before .before .args in (a .row ≤ 24) × (a .column ≤ 24) × (2500 ≤ length (now (a .block)))
-unfolding gridRefusal blockOf blocks
 asks c =
     let a = c .before .before .before .before .before .before .args in
-    let h = given (a .format) _ _ _ _ _ (sym (refusal (c .before)) ∙ c .if1 .left) in
-    let rows : ℕ = outsideOf 0 24 (a .row) 10 in
-    let columns : ℕ = outsideOf 0 24 (a .column) 10 in (
-      inside 0 24 (a .row) 10 (λ z. omega arith) (none-first rows columns (h .ranged)) .high,
-      inside 0 24 (a .column) 10 (λ z. omega arith) (none-second rows columns (h .ranged)) .high,
-      h .room,
-    )
+    let h = in-grid (a .format) (a .assembly .marks) (a .row) (a .column) (length (now (a .block))) (sym (refusal (c .before)) ∙ c .if1 .left) in
+    (h .row, h .column, h .room)
 
 outside-requires : tie.Need-outside-requires
 outside-requires c κs = search needs

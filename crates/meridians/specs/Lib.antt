@@ -1,0 +1,2 @@
+pub mod Meridians
+pub mod Before

@@ -1,0 +1,73 @@
+//! The mapping grid: the suite of blocks asks every point of both formats, holds
+//! it to the sources' tables, and notices one column that is another.
+
+use std::cell::RefCell;
+use std::collections::BTreeSet;
+use std::rc::Rc;
+
+use harness::bench::{Bench, Way};
+use harness::call::{Call, Outcome};
+use harness::expected::expected;
+use harness::make::Maker;
+use harness::rows::Name;
+use harness::suites::{blocks, grid};
+
+/// Where a call of `mapping` has row and column, and its answer the longitude.
+const PLACE: [usize; 2] = [4, 5];
+const LONGITUDE: usize = 4;
+
+fn bench_of(make: impl FnMut(&Call) -> Outcome + 'static) -> Bench {
+    Bench::new(vec![Way {
+        name: "the way tested",
+        make: Box::new(make),
+    }])
+}
+
+#[test]
+fn every_point_of_both_formats_is_asked() {
+    let asked = Rc::new(RefCell::new(BTreeSet::new()));
+    let kept = asked.clone();
+    let mut bench = bench_of(move |call| {
+        let outcome = expected(call);
+        if call.name == Name::Mapping && outcome.numbers[0] == 0 {
+            let [row, column] = PLACE.map(|i| call.numbers[i]);
+            kept.borrow_mut().insert((call.numbers[0], row, column));
+        }
+        outcome
+    });
+    blocks::run(&mut bench, &mut Maker::new(61)).expect("nothing is wrong");
+    assert_eq!(asked.borrow().len(), 2 * 25 * 25);
+}
+
+/// 180 is not above 180.
+#[test]
+fn one_column_that_is_another_is_noticed() {
+    let mut bench = bench_of(|call| {
+        let mut outcome = expected(call);
+        if call.name == Name::Mapping && outcome.numbers[LONGITUDE] == 180 {
+            outcome.numbers[LONGITUDE] = -180_i64 as u64;
+        }
+        outcome
+    });
+    let found = blocks::run(&mut bench, &mut Maker::new(62)).expect_err("180 is not west");
+    assert!(found.0.contains("longitude"), "{}", found.0);
+}
+
+/// The suite's tables are those of the documents: 45 to 165 east, and 80 east to
+/// 160 west, five degrees apart on the globe.
+#[test]
+fn the_tables_of_the_suite() {
+    let block = [0; 2_500];
+    let of = |format, column| grid::point(format, &block, 0, column)[3] as i64;
+    assert_eq!([of(1, 0), of(1, 24)], [45, 165]);
+    assert_eq!(
+        [of(2, 0), of(2, 20), of(2, 21), of(2, 24)],
+        [80, 180, -175, -160]
+    );
+    for format in [1, 2] {
+        for column in 1..25 {
+            let step = of(format, column) - of(format, column - 1);
+            assert_eq!(step.rem_euclid(360), 5);
+        }
+    }
+}
