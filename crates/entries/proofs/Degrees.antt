@@ -31,7 +31,7 @@ sub-fits a b h k = subst (SFits w16) (sym (ap₂ _-ℤ_ (pos-is a h) (pos-is b k
 pub sub-is : (a b : ℕ) → a < 2 ^ 15 → b < 2 ^ 15 → toZ w16 (ofZ w16 (toZ w16 a -ℤ toZ w16 b)) ≡ pos a -ℤ pos b
 sub-is a b h k = toZ-ofZ w16 (toZ w16 a -ℤ toZ w16 b) (sub-fits a b h k) ∙ ap₂ _-ℤ_ (pos-is a h) (pos-is b k)
 
--- held in a struct as their bits, they are themselves again
+-- held as their bits, in a struct or handed on by a call, they are themselves again
 pub back : (z x : ℤ) → SFits w16 x → z ≡ x → toZ w16 (ofZ w16 z) ≡ x
 back z x s e = ap (λ (y : ℤ). toZ w16 (ofZ w16 y)) e ∙ toZ-ofZ w16 x s
 

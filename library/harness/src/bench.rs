@@ -29,6 +29,15 @@ impl Bench {
         }
     }
 
+    /// A bench with one way, which does as it likes: what the harness's own tests
+    /// try it with.
+    pub fn of(make: impl FnMut(&Call) -> Outcome + 'static) -> Bench {
+        Bench::new(vec![Way {
+            name: "the way tested",
+            make: Box::new(make),
+        }])
+    }
+
     /// Makes a call every way and compares what comes of it. Gives the second
     /// decoder's outcome, which is that of all of them.
     pub fn ask(&mut self, asked: &Asked) -> Result<Outcome, Difference> {

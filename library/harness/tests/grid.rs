@@ -5,8 +5,7 @@ use std::cell::RefCell;
 use std::collections::BTreeSet;
 use std::rc::Rc;
 
-use harness::bench::{Bench, Way};
-use harness::call::{Call, Outcome};
+use harness::bench::Bench;
 use harness::expected::expected;
 use harness::make::Maker;
 use harness::rows::Name;
@@ -16,18 +15,11 @@ use harness::suites::{blocks, grid};
 const PLACE: [usize; 2] = [4, 5];
 const LONGITUDE: usize = 4;
 
-fn bench_of(make: impl FnMut(&Call) -> Outcome + 'static) -> Bench {
-    Bench::new(vec![Way {
-        name: "the way tested",
-        make: Box::new(make),
-    }])
-}
-
 #[test]
 fn every_point_of_both_formats_is_asked() {
     let asked = Rc::new(RefCell::new(BTreeSet::new()));
     let kept = asked.clone();
-    let mut bench = bench_of(move |call| {
+    let mut bench = Bench::of(move |call| {
         let outcome = expected(call);
         if call.name == Name::Mapping && outcome.numbers[0] == 0 {
             let [row, column] = PLACE.map(|i| call.numbers[i]);
@@ -42,7 +34,7 @@ fn every_point_of_both_formats_is_asked() {
 /// 180 is not above 180.
 #[test]
 fn one_column_that_is_another_is_noticed() {
-    let mut bench = bench_of(|call| {
+    let mut bench = Bench::of(|call| {
         let mut outcome = expected(call);
         if call.name == Name::Mapping && outcome.numbers[LONGITUDE] == 180 {
             outcome.numbers[LONGITUDE] = -180_i64 as u64;

@@ -1,7 +1,7 @@
 //! A comparison that cannot fail is worthless: every field, every buffer and
 //! every canary is changed here, and the change has to be reported.
 
-use harness::bench::{Bench, Way};
+use harness::bench::Bench;
 use harness::call::{Call, Lent, Outcome};
 use harness::compare::{broken_rule, difference};
 use harness::expected::expected;
@@ -103,21 +103,13 @@ fn a_buffer_that_is_only_read_must_stay() {
     }
 }
 
-/// A bench with a way that does as it likes.
-fn bench_of(make: impl FnMut(&Call) -> Outcome + 'static) -> Bench {
-    Bench::new(vec![Way {
-        name: "the way tested",
-        make: Box::new(make),
-    }])
-}
-
 #[test]
 fn the_bench_reports_what_differs() {
     let mut maker = Maker::new(14);
     let asked = maker.planned(Name::Mapping, &Faults::none());
-    assert!(bench_of(expected).ask(&asked).is_ok());
+    assert!(Bench::of(expected).ask(&asked).is_ok());
 
-    let mut wrong = bench_of(|call| {
+    let mut wrong = Bench::of(|call| {
         let mut outcome = expected(call);
         outcome.numbers[3] = outcome.numbers[3].wrapping_add(1);
         outcome
@@ -127,7 +119,7 @@ fn the_bench_reports_what_differs() {
     assert!(words.contains("hansobrik_mapping\n  format = "), "{words}");
     assert!(words.contains("\n  block: 2"), "{words}");
 
-    let mut wrong = bench_of(|call| {
+    let mut wrong = Bench::of(|call| {
         let mut outcome = expected(call);
         outcome.lent[0].bytes_mut()[77] ^= 4;
         outcome
@@ -138,14 +130,14 @@ fn the_bench_reports_what_differs() {
     // the plan is held to the answer too
     let mut asked = asked;
     asked.wanted = Some(9);
-    let words = bench_of(expected).ask(&asked).expect_err("not refused").0;
+    let words = Bench::of(expected).ask(&asked).expect_err("not refused").0;
     assert!(words.contains("refused with 0, made for 9"), "{words}");
 }
 
 #[test]
 fn what_was_left_out_is_said() {
     let mut maker = Maker::new(15);
-    let mut bench = bench_of(expected);
+    let mut bench = Bench::of(expected);
     for row in &ROWS {
         for faults in Faults::sets(row) {
             if row.name != Name::Date || !faults.has(7) {

@@ -6,7 +6,7 @@ use std::cell::RefCell;
 use std::collections::BTreeSet;
 use std::rc::Rc;
 
-use harness::bench::{Bench, Way};
+use harness::bench::Bench;
 use harness::call::{Call, Outcome};
 use harness::expected::expected;
 use harness::faults::Faults;
@@ -114,13 +114,6 @@ fn entries_have_any_numbers() {
     }
 }
 
-fn bench_of(make: impl FnMut(&Call) -> Outcome + 'static) -> Bench {
-    Bench::new(vec![Way {
-        name: "the way tested",
-        make: Box::new(make),
-    }])
-}
-
 /// Every refusal that a line may meet is met by each block that it is for, with
 /// the segment's own mark and without it; and calls on a block are made before
 /// it is finished and afterwards.
@@ -128,7 +121,7 @@ fn bench_of(make: impl FnMut(&Call) -> Outcome + 'static) -> Bench {
 fn the_suite_tries_what_it_says() {
     let asked = Rc::new(RefCell::new((BTreeSet::new(), BTreeSet::new(), 0)));
     let kept = asked.clone();
-    let mut bench = bench_of(move |call| {
+    let mut bench = Bench::of(move |call| {
         let outcome = expected(call);
         let (adds, entries, calls) = &mut *kept.borrow_mut();
         let (format, refused) = (call.numbers[0], outcome.numbers[0]);
@@ -177,7 +170,7 @@ fn the_suite_tries_what_it_says() {
 /// What is said of a library that does as the right one, but for what is done
 /// to a call before it and to its outcome behind it.
 fn said_of(before: fn(&mut Call), behind: fn(&Call, &mut Outcome)) -> String {
-    let mut bench = bench_of(move |call| {
+    let mut bench = Bench::of(move |call| {
         let mut handed = call.clone();
         before(&mut handed);
         let mut outcome = expected(&handed);

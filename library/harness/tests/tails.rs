@@ -5,8 +5,7 @@ use std::cell::RefCell;
 use std::collections::BTreeSet;
 use std::rc::Rc;
 
-use harness::bench::{Bench, Way};
-use harness::call::{Call, Outcome};
+use harness::bench::Bench;
 use harness::expected::expected;
 use harness::make::Maker;
 use harness::suites::tails;
@@ -15,18 +14,11 @@ use harness::suites::tails;
 const SETTING: usize = 1;
 const IN_LINE: usize = 5;
 
-fn bench_of(make: impl FnMut(&Call) -> Outcome + 'static) -> Bench {
-    Bench::new(vec![Way {
-        name: "the way tested",
-        make: Box::new(make),
-    }])
-}
-
 #[test]
 fn every_setting_is_tried_between_lines_and_inside_one() {
     let asked = Rc::new(RefCell::new((BTreeSet::new(), 0)));
     let kept = asked.clone();
-    let mut bench = bench_of(move |call| {
+    let mut bench = Bench::of(move |call| {
         let mut asked = kept.borrow_mut();
         let (setting, in_line) = (call.numbers[SETTING], call.numbers[IN_LINE]);
         asked.0.insert((setting, in_line));
@@ -43,7 +35,7 @@ fn every_setting_is_tried_between_lines_and_inside_one() {
 
 /// What is said of a reader that is at another setting than this one.
 fn said_of(setting: usize, other: usize) -> String {
-    let mut bench = bench_of(move |call| {
+    let mut bench = Bench::of(move |call| {
         let mut call = call.clone();
         if call.numbers[SETTING] == setting as u64 {
             call.numbers[SETTING] = other as u64;

@@ -8,8 +8,7 @@ use std::collections::BTreeSet;
 use std::rc::Rc;
 
 use counts::{Count, Seen, RIGHT, WRONG, WRONG_INSIDE};
-use harness::bench::{Bench, Difference, Way};
-use harness::call::{Call, Outcome};
+use harness::bench::{Bench, Difference};
 use harness::dice::Dice;
 use harness::expected::expected;
 use harness::suites::fillers::{pieces, Filler};
@@ -53,13 +52,6 @@ fn the_pieces_are_head_words_and_rest() {
     }
 }
 
-fn bench_of(make: impl FnMut(&Call) -> Outcome + 'static) -> Bench {
-    Bench::new(vec![Way {
-        name: "the way tested",
-        make: Box::new(make),
-    }])
-}
-
 /// What the suite says of a way; as in every run, or also as in a long one.
 fn said_of(sector: usize, long: bool, bench: &mut Bench) -> Result<(), Difference> {
     let mut filler = Filler {
@@ -80,7 +72,7 @@ type Asked = (u64, u8, Vec<u8>);
 fn asked(sector: usize, long: bool) -> Vec<Asked> {
     let asked = Rc::new(RefCell::new(Vec::new()));
     let kept = asked.clone();
-    let mut bench = bench_of(move |call| {
+    let mut bench = Bench::of(move |call| {
         let line = call.lent[0].bytes();
         let filler = part(line, start(sector), FILLER_BITS);
         kept.borrow_mut().push((call.numbers[0], line[0], filler));
@@ -132,7 +124,7 @@ fn a_long_run_tries_every_place_and_each_piece_alone() {
 
 /// A bench with a way that counts so.
 fn counting(sector: usize, count: Count) -> Bench {
-    bench_of(move |call| {
+    Bench::of(move |call| {
         let mut outcome = expected(call);
         outcome.numbers[1] = count(&Seen::of(call.lent[0].bytes(), sector)) as u64;
         outcome
@@ -169,7 +161,7 @@ fn a_right_count_is_not() {
 #[test]
 fn the_second_decoder_may_be_wrong() {
     let mut filler = Filler {
-        bench: &mut bench_of(expected),
+        bench: &mut Bench::of(expected),
         dice: &mut Dice::new(17),
         sector: 9,
     };
