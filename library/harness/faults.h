@@ -162,6 +162,14 @@ typedef bool foreign(TABLES);
 static inline bool other_number(TABLES) { return n == 3 ? k.manam != l.manam : n > 3 && k.calibration != l.calibration; }
 static inline bool other_tables(TABLES) { return k.marks != 0 && other_number(k, l, n); }
 
+/* The same of those bits alone that a mask has. */
+static inline bool other_bits(TABLES, uint16_t mask)
+{
+    l.calibration = (uint16_t)((k.calibration & ~mask) | (l.calibration & mask));
+    l.manam = (uint16_t)((k.manam & ~mask) | (l.manam & mask));
+    return other_tables(k, l, n);
+}
+
 /* add_segment with another rule: what is foreign is tested here, the rest is the library's. */
 static inline hansobrik_add_answer by_tables(foreign is, ADDING)
 {
@@ -517,21 +525,11 @@ static bool either(TABLES) { return n >= 3 && (other_tables(k, l, 3) || other_ta
 static hansobrik_add_answer wrong(ADDING) { return by_tables(either, f, k, p, c, n, o, d); }
 #define hansobrik_add_segment wrong
 #elif FAULT == 45 /* the low bytes alone are compared */
-static bool low(TABLES)
-{
-    l.calibration = (uint16_t)(k.calibration & 0xFF00) | (l.calibration & 0xFF);
-    l.manam = (uint16_t)(k.manam & 0xFF00) | (l.manam & 0xFF);
-    return other_tables(k, l, n);
-}
+static bool low(TABLES) { return other_bits(k, l, n, 0xFF); }
 static hansobrik_add_answer wrong(ADDING) { return by_tables(low, f, k, p, c, n, o, d); }
 #define hansobrik_add_segment wrong
 #elif FAULT == 46 /* the high bytes alone are compared */
-static bool high(TABLES)
-{
-    l.calibration = (uint16_t)(k.calibration & 0xFF) | (l.calibration & 0xFF00);
-    l.manam = (uint16_t)(k.manam & 0xFF) | (l.manam & 0xFF00);
-    return other_tables(k, l, n);
-}
+static bool high(TABLES) { return other_bits(k, l, n, 0xFF00); }
 static hansobrik_add_answer wrong(ADDING) { return by_tables(high, f, k, p, c, n, o, d); }
 #define hansobrik_add_segment wrong
 #elif FAULT == 47 /* another revision is seen only once the block is finished */

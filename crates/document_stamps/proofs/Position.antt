@@ -1,27 +1,17 @@
--- The line position: a difference of two numbers lies as far on either side of 0 as the larger one. Assumes nothing.
-use mathlib.Core.Bool.{Bool, true, false, cond}
+-- The line position lies from -9,999 to 9,999, and fits its width. Assumes nothing.
 use mathlib.Core.List.{List}
 use mathlib.Core.Path.{_≡_, subst}
-use Prim.Native.Nat.{ℕ, zero, suc, _-_, _^_, _≤_, _<_}
+use Prim.Native.Nat.{ℕ, _^_, _≤_, _<_}
 use native.Mathlib.Omega.{arith}
-use lib.Dec.{ltb}
-use lib.IntN.{ℤ, pos, negsuc, _-ℤ_, natAbs}
-use lib.Signed.{mag}
+use lib.IntN.{natAbs}
 use mir.Syntax.{w32}
 use mir.Val.{SFits}
 use Rattle.refusals.proofs.Given.{unrefused}
+use Rattle.numbers.proofs.Differences.{apart, difference-fits}
 use Rattle.stamps.proofs.Digits.{bcd-below}
 use Rattle.document_stamps.specs.declared.lines.LineNumbers.{LineNumbers}
 use Rattle.document_stamps.specs.declared.lines.Numbered.the-variants.{Is, Refused}
 use Rattle.document_stamps.specs.Lines.{countAt, positionOf, linesIn, lineNumbersRefusal, lineNumbersAnswer}
-
-apart : (a b k : ℕ) → a ≤ k → b ≤ k → natAbs (pos a -ℤ pos b) ≤ k
-apart a zero k ha hb = omega arith
-apart a (suc b) k ha hb = go (ltb a (suc b))
-  where
-    go : (t : Bool) → natAbs (cond t (negsuc (suc b - suc a)) (pos (a - suc b))) ≤ k
-    go true = omega arith
-    go false = omega arith
 
 within : (count set : ℕ) → count < 10000 → set < 10000 → natAbs (positionOf count set) ≤ 9999
 unfolding positionOf
@@ -41,10 +31,6 @@ position-within f line l e =
     subst (λ (x : LineNumbers). natAbs (x .position) ≤ 9999) same (lines-within line)
 
 -- any difference of numbers of sixteen bits fits thirty-two
-magnitude : (z : ℤ) → mag z ≤ natAbs z
-magnitude (pos n) = omega arith
-magnitude (negsuc n) = omega arith
-
 pub position-fits : (count set : ℕ) → count < 2 ^ 16 → set < 2 ^ 16 → SFits w32 (positionOf count set)
 unfolding positionOf
-position-fits a b ha hb = record { sfits = omega (arith, magnitude (pos a -ℤ pos b), apart a b 65535 (omega arith) (omega arith)) }
+position-fits a b ha hb = difference-fits w32 a b (omega arith) (omega arith)

@@ -1,32 +1,23 @@
 -- Latitudes and longitudes of the grid fit sixteen bits, signed. Assumes nothing.
 use mathlib.Core.Path.{_≡_, refl, sym, ap, ap₂, subst, _∙_}
 use mathlib.Core.Bool.{Bool, true, false, cond}
-use Prim.Native.Nat.{ℕ, zero, suc, _+_, _*_, _-_, _^_, _≤_, _<_}
+use Prim.Native.Nat.{ℕ, _+_, _*_, _^_, _≤_, _<_}
 use native.Mathlib.Omega.{arith}
 use lib.Dec.{eqb, ltb}
-use lib.IntN.{ℤ, pos, negsuc, _-ℤ_}
-use lib.Signed.{mag}
+use lib.IntN.{ℤ, pos, _-ℤ_}
 use borrow.Author.Tests.{lt-ltb, le-ltb, eq-eqb, ne-eqb}
 use mir.Syntax.{w16}
 use mir.Val.{SFits, toZ, ofZ}
 use mir.ValLaws.{toZ-pos, toZ-ofZ}
+use Rattle.numbers.proofs.Differences.{difference-fits}
 use Rattle.entries.specs.Entries.{latitudeOf, firstLongitude, westAbove180, longitudeOf}
-
--- the difference of two small numbers is small
-mag-if : (t : Bool) (a b : ℕ) → a < 2 ^ 15 → b < 2 ^ 15 → mag (cond t (negsuc (b - suc a)) (pos (a - b))) < 2 ^ 15
-mag-if true a b h k = omega arith
-mag-if false a b h k = omega arith
-
-mag-sub : (a b : ℕ) → a < 2 ^ 15 → b < 2 ^ 15 → mag (pos a -ℤ pos b) < 2 ^ 15
-mag-sub a zero h k = omega arith
-mag-sub a (suc b) h k = mag-if (ltb a (suc b)) a (suc b) h k
 
 pub pos-is : (n : ℕ) → n < 2 ^ 15 → toZ w16 n ≡ pos n
 pos-is n h = toZ-pos w16 n h
 
 -- a difference of two small numbers, read from their bits
 pub sub-fits : (a b : ℕ) → a < 2 ^ 15 → b < 2 ^ 15 → SFits w16 (toZ w16 a -ℤ toZ w16 b)
-sub-fits a b h k = subst (SFits w16) (sym (ap₂ _-ℤ_ (pos-is a h) (pos-is b k))) (record { sfits = mag-sub a b h k })
+sub-fits a b h k = subst (SFits w16) (sym (ap₂ _-ℤ_ (pos-is a h) (pos-is b k))) (difference-fits w16 a b h k)
 
 pub sub-is : (a b : ℕ) → a < 2 ^ 15 → b < 2 ^ 15 → toZ w16 (ofZ w16 (toZ w16 a -ℤ toZ w16 b)) ≡ pos a -ℤ pos b
 sub-is a b h k = toZ-ofZ w16 (toZ w16 a -ℤ toZ w16 b) (sub-fits a b h k) ∙ ap₂ _-ℤ_ (pos-is a h) (pos-is b k)
@@ -36,7 +27,7 @@ pub back : (z x : ℤ) → SFits w16 x → z ≡ x → toZ w16 (ofZ w16 z) ≡ x
 back z x s e = ap (λ (y : ℤ). toZ w16 (ofZ w16 y)) e ∙ toZ-ofZ w16 x s
 
 pub latitude-fits : (i : ℕ) → i ≤ 24 → SFits w16 (latitudeOf i)
-latitude-fits i h = record { sfits = mag-sub 60 (5 * i) (omega arith) (omega arith) }
+latitude-fits i h = difference-fits w16 60 (5 * i) (omega arith) (omega arith)
 
 -- the first column
 pub first-at-80 : (f : ℕ) → f ≡ 2 → firstLongitude f ≡ 80
@@ -69,7 +60,7 @@ unfolding westAbove180
 west-fits d h = by (ltb 180 d)
   where
     by : (t : Bool) → SFits w16 (cond t (pos d -ℤ pos 360) (pos d))
-    by true = record { sfits = mag-sub d 360 (omega arith) (omega arith) }
+    by true = difference-fits w16 d 360 (omega arith) (omega arith)
     by false = record { sfits = omega arith }
 
 pub longitude-fits : (f j : ℕ) → j ≤ 24 → SFits w16 (longitudeOf f j)

@@ -8,11 +8,12 @@ use native.Mathlib.Omega.{arith}
 use lib.Dec.{eqb}
 use lib.IntN.{ℤ, pos, negsuc, _-ℤ_}
 use lib.ListN.{getD}
+use Rattle.numbers.proofs.Differences.{either, minus-more, minus-less}
 use Rattle.numbers.proofs.Table.{listed, listed-at}
 use Rattle.entries.specs.Entries.{latitudeOf, firstLongitude, westAbove180, longitudeOf}
 use Rattle.entries.proofs.Degrees.{first-at-45, first-most, stays-east}
 use Rattle.meridians.specs.Meridians.{east, west, SameMeridian, Longitude, svissrColumns, hiridColumns, columnsOf}
-use Rattle.meridians.proofs.Turns.{either, minus-more, minus-less, within, congruent, the-one, different}
+use Rattle.meridians.proofs.Turns.{within, congruent, the-one, different}
 
 -- ---- the columns, computed
 

@@ -1,33 +1,14 @@
 -- ONE LONGITUDE FOR EACH MERIDIAN: `westAbove180` of degrees east, up to a turn and a half, is the one number of degrees that is on
 -- the same meridian and a longitude. Assumes nothing.
-use mathlib.Core.Path.{_≡_, refl, sym, ap, subst, _∙_}
-use mathlib.Core.Bool.{Bool, true, false}
-use Prim.Native.Nat.{ℕ, zero, suc, _+_, _*_, _-_, _≤_, _<_}
+use mathlib.Core.Path.{_≡_, sym, ap, subst, _∙_}
+use Prim.Native.Nat.{ℕ, suc, _+_, _*_, _-_, _≤_, _<_}
 use native.Mathlib.Omega.{arith}
-use lib.Dec.{ltb, leb→le, le→leb, ltb→lt, lt→ltb}
+use lib.Dec.{leb→le, le→leb, ltb→lt, lt→ltb}
 use lib.IntN.{ℤ, pos, negsuc, _+ℤ_, _-ℤ_, _*ℤ_}
-use borrow.Author.Tests.{ltb-true, ltb-false, lt-ltb, le-ltb}
+use Rattle.numbers.proofs.Differences.{either, minus-more, minus-less}
 use Rattle.entries.specs.Entries.{westAbove180}
 use Rattle.entries.proofs.Degrees.{stays-east, turns-west}
 use Rattle.meridians.specs.Meridians.{SameMeridian, Longitude}
-
--- ---- differences
-
-pub minus-more : (a b : ℕ) → b ≤ a → pos a -ℤ pos b ≡ pos (a - b)
-minus-more a zero h = ap pos (omega arith)
-minus-more a (suc b) h = rw (le-ltb a (suc b) h) refl
-
-pub minus-less : (a b : ℕ) → a < b → pos a -ℤ pos b ≡ negsuc (b - suc a)
-minus-less a zero h = absurd (omega arith)
-minus-less a (suc b) h = rw (lt-ltb a (suc b) h) refl
-
--- by which of two numbers is the larger
-pub either : {P : Type 0} (a b : ℕ) → (a < b → P) → (b ≤ a → P) → P
-either {P} a b less more = go (ltb a b) refl
-  where
-    go : (t : Bool) → ltb a b ≡ t → P
-    go true e = less (ltb-true a b e)
-    go false e = more (ltb-false a b e)
 
 -- ---- longitudes, in numbers
 

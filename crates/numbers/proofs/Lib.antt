@@ -1,5 +1,6 @@
 pub mod Ranges
 pub mod Table
+pub mod Differences
 pub mod Nines
 pub mod Signs
 pub mod Answers

@@ -165,6 +165,30 @@ fn level_f64_of(a: raw::LevelFloatAnswer) -> Result<LevelF64, Refusal> {
     )
 }
 
+/// One of the library's four calls for a level.
+type LevelCall<A> = unsafe extern "C" fn(u8, Assembly, *const u8, usize, u8, u16) -> A;
+
+fn level_by<A>(
+    call: LevelCall<A>,
+    format: u8,
+    assembly: Assembly,
+    block: &[u8],
+    channel: u8,
+    level: u16,
+) -> A {
+    // SAFETY: the pointer and the count are those of one slice.
+    unsafe {
+        call(
+            format,
+            assembly,
+            block.as_ptr(),
+            block.len(),
+            channel,
+            level,
+        )
+    }
+}
+
 /// The albedo of a level, 0 to 63, of VIS 1 to 4. Refused with FORMAT, STATE,
 /// NUMBER, RANGE, SHORT_INPUT, UNFINISHED.
 pub fn albedo(
@@ -174,17 +198,8 @@ pub fn albedo(
     channel: u8,
     level: u16,
 ) -> Result<Level, Refusal> {
-    // SAFETY: the pointer and the count are those of one slice.
-    level_of(unsafe {
-        raw::hansobrik_albedo(
-            format,
-            assembly,
-            block.as_ptr(),
-            block.len(),
-            channel,
-            level,
-        )
-    })
+    let call = raw::hansobrik_albedo;
+    level_of(level_by(call, format, assembly, block, channel, level))
 }
 
 /// The same in f64.
@@ -195,17 +210,8 @@ pub fn albedo_f64(
     channel: u8,
     level: u16,
 ) -> Result<LevelF64, Refusal> {
-    // SAFETY: the pointer and the count are those of one slice.
-    level_f64_of(unsafe {
-        raw::hansobrik_albedo_f64(
-            format,
-            assembly,
-            block.as_ptr(),
-            block.len(),
-            channel,
-            level,
-        )
-    })
+    let call = raw::hansobrik_albedo_f64;
+    level_f64_of(level_by(call, format, assembly, block, channel, level))
 }
 
 /// The temperature of a level, 0 to 1,023, of IR 1 to 4. Refused with FORMAT,
@@ -217,17 +223,8 @@ pub fn temperature(
     channel: u8,
     level: u16,
 ) -> Result<Level, Refusal> {
-    // SAFETY: the pointer and the count are those of one slice.
-    level_of(unsafe {
-        raw::hansobrik_temperature(
-            format,
-            assembly,
-            block.as_ptr(),
-            block.len(),
-            channel,
-            level,
-        )
-    })
+    let call = raw::hansobrik_temperature;
+    level_of(level_by(call, format, assembly, block, channel, level))
 }
 
 /// The same in f64.
@@ -238,17 +235,8 @@ pub fn temperature_f64(
     channel: u8,
     level: u16,
 ) -> Result<LevelF64, Refusal> {
-    // SAFETY: the pointer and the count are those of one slice.
-    level_f64_of(unsafe {
-        raw::hansobrik_temperature_f64(
-            format,
-            assembly,
-            block.as_ptr(),
-            block.len(),
-            channel,
-            level,
-        )
-    })
+    let call = raw::hansobrik_temperature_f64;
+    level_f64_of(level_by(call, format, assembly, block, channel, level))
 }
 
 /// The orbital elements of a finished orbit block. Refused with FORMAT, STATE,
