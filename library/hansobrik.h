@@ -1,4 +1,5 @@
-/* hansobrik.h - weather-satellite lines, S-VISSR 2.0 (format 1) and HiRID (format 2).
+/* hansobrik.h - weather-satellite lines, S-VISSR 2.0 (format 1, and format 3 from a card whose check starts from ones) and
+ * HiRID (format 2).
  *
  * Every call of the library, every constant, every refusal number. The code behind it is proved: each call ends, stays
  * inside what was lent, and answers as its contract says, for any bytes and any state record.
@@ -16,6 +17,10 @@
  *   order. A refused call changes no buffer; its answer has 0 in every other field, but the reader's record, a register and
  *   an assembly's record come back as they were handed in.
  * - Bytes of a buffer behind a call's result are kept.
+ * - Format 3 is format 1 from a card that presets its check register with sixteen ones: in each sector the first 16 bits are
+ *   inverted before the remainder is taken. Nothing else differs, so lines of either card are found in both formats, but no
+ *   sector is accepted in both: where one card's recording is read as the other's, every good sector is refused with
+ *   REMAINDER.
  * - Numbers have the width that is declared: C cuts a wider one without a word, so compile with -Wconversion.
  *
  * Widths: the reader's record and an assembly's have fields of fixed width and 24 and 8 bytes without a gap on every machine,
@@ -43,16 +48,16 @@ _Static_assert(sizeof(size_t) == 8, "hansobrik: the library is made for machines
 /* ---- the version of this header ---- */
 
 #define HANSOBRIK_VERSION_MAJOR 0
-#define HANSOBRIK_VERSION_MINOR 5
+#define HANSOBRIK_VERSION_MINOR 6
 #define HANSOBRIK_VERSION_PATCH 0
 #define HANSOBRIK_VERSION (HANSOBRIK_VERSION_MAJOR * 10000 + HANSOBRIK_VERSION_MINOR * 100 + HANSOBRIK_VERSION_PATCH)
-#define HANSOBRIK_VERSION_TEXT "0.5.0"
+#define HANSOBRIK_VERSION_TEXT "0.6.0"
 
 /* ---- refusal numbers, in the order in which they are tested ---- */
 
 enum {
     HANSOBRIK_OK = 0,                   /* the call was served */
-    HANSOBRIK_REFUSED_FORMAT = 1,       /* the format is neither 1 nor 2 */
+    HANSOBRIK_REFUSED_FORMAT = 1,       /* the format is none of 1, 2, 3 */
     HANSOBRIK_REFUSED_SETTING = 13,     /* the setting of a reader is above 6 */
     HANSOBRIK_REFUSED_STATE = 12,       /* the reader's record, the register or the marks are impossible */
     HANSOBRIK_REFUSED_NUMBER = 4,       /* a sector, channel or block number that the call does not serve;
@@ -73,14 +78,17 @@ enum {
 /* ---- sizes ---- */
 
 enum {
-    HANSOBRIK_S_VISSR = 1,             /* the two formats */
+    HANSOBRIK_S_VISSR = 1,             /* the three formats */
     HANSOBRIK_HIRID = 2,
+    HANSOBRIK_S_VISSR_ONES = 3,        /* S-VISSR from a card that presets its check register with ones */
     HANSOBRIK_LARGEST_SETTING = 6,     /* wrong bits of the tail, of its 64, that a reader may be told to bear */
     HANSOBRIK_LINE_BYTES = 44356,      /* one plain line */
     HANSOBRIK_WIRE_BYTES_1 = 45606,    /* one line on the wire, format 1 */
     HANSOBRIK_WIRE_BYTES_2 = 49500,    /* the same, format 2 */
+    HANSOBRIK_WIRE_BYTES_3 = 45606,    /* and format 3, as in format 1 */
     HANSOBRIK_SYNC_BYTES_1 = 1250,
     HANSOBRIK_SYNC_BYTES_2 = 2500,
+    HANSOBRIK_SYNC_BYTES_3 = 1250,
     HANSOBRIK_SECTORS = 12,            /* 1 DOC, 2-4 IR1-3 upper, 5-8 VIS1-4, 9-11 IR1-3 lower, 12 IR4 */
     HANSOBRIK_IR_PIXELS = 2291,        /* also the bytes of DOC */
     HANSOBRIK_VIS_PIXELS = 9164,
@@ -93,7 +101,7 @@ enum {
     HANSOBRIK_ORBIT = 2,
     HANSOBRIK_MANAM = 3,
     HANSOBRIK_CALIBRATION_1 = 4,
-    HANSOBRIK_CALIBRATION_2 = 5,       /* format 1 only */
+    HANSOBRIK_CALIBRATION_2 = 5,       /* not in format 2 */
     HANSOBRIK_MAPPING_BYTES = 2500,    /* and their sizes */
     HANSOBRIK_ORBIT_BYTES = 3200,
     HANSOBRIK_MANAM_BYTES = 10250,
@@ -149,6 +157,7 @@ typedef struct {
 typedef struct {
     uint8_t refused;
     uint8_t number;
+    uint16_t check_start;  /* what the check of its sectors starts from: 0, in format 3 0xFFFF */
     size_t sync_bits;
     size_t information_bits;
     size_t dummy_bits;
@@ -288,7 +297,7 @@ uint32_t hansobrik_version(void);
 
 /* ---- formats, scrambling, SYNC ---- */
 
-/* The lengths of a format. Refused: FORMAT. */
+/* The lengths of a format, and the start value of its check. Refused: FORMAT. */
 hansobrik_format_answer hansobrik_format(uint8_t format);
 
 /* One step of the scrambling register, by value. A register over fifteen bits comes back as it was. Refused: STATE. */
@@ -297,8 +306,8 @@ hansobrik_step_answer hansobrik_stepped(uint16_t register_);
 /* The same of a register that is lent, and changes in place; a refused one stays as it was. Refused: STATE. */
 hansobrik_step_answer hansobrik_step(uint16_t *register_);
 
-/* SYNC at the front of out; count is its bytes. Needs in out: SYNC_BYTES_1, in format 2 SYNC_BYTES_2.
- * Refused: FORMAT, SHORT_OUTPUT. */
+/* SYNC at the front of out; count is its bytes. Needs in out: SYNC_BYTES_1, SYNC_BYTES_2 or SYNC_BYTES_3, by
+ * format. Refused: FORMAT, SHORT_OUTPUT. */
 hansobrik_count_answer hansobrik_put_sync(uint8_t format, uint8_t *out, size_t out_count);
 
 /* ---- recordings ---- */
@@ -318,8 +327,8 @@ hansobrik_state hansobrik_fresh(void);
 hansobrik_read_answer hansobrik_read(uint8_t format, uint8_t setting, hansobrik_state state, const uint8_t *piece,
                                      size_t piece_count, uint8_t *line, size_t line_count);
 
-/* One plain line on the wire at the front of out; count is its bytes. Needs in line: LINE_BYTES; in out: WIRE_BYTES_1, in
- * format 2 WIRE_BYTES_2. Refused: FORMAT, SHORT_INPUT, SHORT_OUTPUT. */
+/* One plain line on the wire at the front of out; count is its bytes. Needs in line: LINE_BYTES; in out: WIRE_BYTES_1,
+ * WIRE_BYTES_2 or WIRE_BYTES_3, by format. Refused: FORMAT, SHORT_INPUT, SHORT_OUTPUT. */
 hansobrik_count_answer hansobrik_write_line(uint8_t format, const uint8_t *line, size_t line_count, uint8_t *out,
                                             size_t out_count);
 
@@ -438,7 +447,8 @@ hansobrik_assembly hansobrik_fresh_assembly(void);
  * refused with REVISION until the caller begins a new assembly.
  *
  * Needs in line: LINE_BYTES; in block: MAPPING_BYTES, ORBIT_BYTES, MANAM_BYTES, CALIBRATION_1_BYTES or CALIBRATION_2_BYTES, by
- * number. Refused: FORMAT, STATE, NUMBER, SHORT_INPUT, REMAINDER, ID, FIELD, REVISION, SEGMENT. */
+ * number; CALIBRATION_2 is not in HIRID.
+ * Refused: FORMAT, STATE, NUMBER, SHORT_INPUT, REMAINDER, ID, FIELD, REVISION, SEGMENT. */
 hansobrik_add_answer hansobrik_add_segment(uint8_t format, hansobrik_assembly assembly, const uint8_t *line, size_t line_count,
                                            uint8_t number, uint8_t *block, size_t block_count);
 
@@ -449,7 +459,7 @@ hansobrik_revision_answer hansobrik_revision(uint8_t format, hansobrik_assembly 
                                              size_t block_count);
 
 /* A point of a finished mapping block, row and column 0 to 24, five degrees apart: rows from 60 north to 60 south, columns from
- * 45 to 165 east in S_VISSR and from 80 east to 160 west in HIRID. Needs in block: MAPPING_BYTES.
+ * 45 to 165 east in S_VISSR and S_VISSR_ONES and from 80 east to 160 west in HIRID. Needs in block: MAPPING_BYTES.
  * Refused: FORMAT, STATE, RANGE, SHORT_INPUT, UNFINISHED. */
 hansobrik_grid_answer hansobrik_mapping(uint8_t format, hansobrik_assembly assembly, const uint8_t *block, size_t block_count,
                                         uint16_t row, uint16_t column);
@@ -478,7 +488,7 @@ hansobrik_refusal_words(uint8_t number)
 {
     switch (number) {
     case HANSOBRIK_OK: return "the call was served";
-    case HANSOBRIK_REFUSED_FORMAT: return "the format is neither 1 nor 2";
+    case HANSOBRIK_REFUSED_FORMAT: return "the format is none of 1, 2, 3";
     case HANSOBRIK_REFUSED_SETTING: return "the setting of a reader is above 6";
     case HANSOBRIK_REFUSED_STATE: return "the reader's record, the register or the marks are impossible";
     case HANSOBRIK_REFUSED_NUMBER:

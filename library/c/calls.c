@@ -265,6 +265,7 @@ static void say_format(hansobrik_format_answer a)
 {
     say(a.refused);
     say(a.number);
+    say(a.check_start);
     say(a.sync_bits);
     say(a.information_bits);
     say(a.dummy_bits);

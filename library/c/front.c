@@ -1,6 +1,6 @@
 /* front: what stands in hansobrik.h alone and so in no archive, beside the calls themselves: the macros of the version, the
- * words of a refusal, the names of scan modes and mirrors, the sizes that a call needs, and hansobrik_reader. It says what is
- * not so and ends with 1, or ends with 0. It is C11 and C++11. */
+ * words of a refusal, the names of formats, scan modes and mirrors, the sizes that a call needs, and hansobrik_reader. It says
+ * what is not so and ends with 1, or ends with 0. It is C11 and C++11. */
 #include "hansobrik.h"
 
 #include <stdio.h>
@@ -57,6 +57,47 @@ static void make_line(uint8_t format, uint8_t mode, uint8_t select, uint8_t thir
     doc[64] = select;
     doc[100] = third;
     expect(hansobrik_put_data(format, out, HANSOBRIK_LINE_BYTES, 1, doc, sizeof doc) == HANSOBRIK_OK, "a line is made", third);
+}
+
+/* The lengths of the three formats, by the names in the comments of hansobrik_put_sync and hansobrik_write_line. */
+static size_t sync_bytes(uint8_t format)
+{
+    return format == HANSOBRIK_S_VISSR ? HANSOBRIK_SYNC_BYTES_1
+           : format == HANSOBRIK_HIRID ? HANSOBRIK_SYNC_BYTES_2
+                                       : HANSOBRIK_SYNC_BYTES_3;
+}
+
+static size_t wire_bytes(uint8_t format)
+{
+    return format == HANSOBRIK_S_VISSR ? HANSOBRIK_WIRE_BYTES_1
+           : format == HANSOBRIK_HIRID ? HANSOBRIK_WIRE_BYTES_2
+                                       : HANSOBRIK_WIRE_BYTES_3;
+}
+
+/* What a format says of itself; and a documentation sector of zeros has the paper's check word, with which a format of the
+ * other start value refuses it. */
+static void formats(void)
+{
+    for (unsigned n = 0; n <= 255; n++) {
+        hansobrik_format_answer a = hansobrik_format((uint8_t)n);
+        bool known = n >= HANSOBRIK_S_VISSR && n <= HANSOBRIK_S_VISSR_ONES;
+        expect(a.refused == (known ? HANSOBRIK_OK : HANSOBRIK_REFUSED_FORMAT), "1, 2, 3 are formats, no other number is", n);
+        if (!known)
+            continue;
+        bool ones = n == HANSOBRIK_S_VISSR_ONES;
+        expect(a.number == n, "a format has its number", n);
+        expect(a.check_start == (ones ? 0xFFFF : 0), "a format has its start value", n);
+        expect(a.sync_bits == 8 * sync_bytes(a.number), "a format has its SYNC", n);
+        expect(a.bytes == wire_bytes(a.number), "a format has its bytes", n);
+        make_line(a.number, 0, 0, 0, line);
+        unsigned word = (unsigned)line[2293] << 8 | line[2294];
+        expect(word == (ones ? 0x9063 : 0), "a sector of zeros has its check word", n);
+        for (uint8_t other = HANSOBRIK_S_VISSR; other <= HANSOBRIK_S_VISSR_ONES; other++) {
+            bool same = ones == (other == HANSOBRIK_S_VISSR_ONES);
+            expect(hansobrik_accepted(other, line, sizeof line, 1) == (same ? HANSOBRIK_OK : HANSOBRIK_REFUSED_REMAINDER),
+                   "it is refused where the check starts otherwise", other);
+        }
+    }
 }
 
 static void named(uint8_t mode, uint8_t mode_name, uint8_t select, uint8_t mirror)
@@ -126,9 +167,9 @@ static void sector_sizes(uint8_t f)
         needs(hansobrik_joined(f, line, all, c, wide, n), hansobrik_joined(f, line, all, c, wide, n - 1), OUT, "joined", c);
     n = HANSOBRIK_STRIP_BYTES;
     needs(hansobrik_strip(f, line, all, room, n).refused, hansobrik_strip(f, line, all, room, n - 1).refused, OUT, "strip", f);
-    n = f == HANSOBRIK_S_VISSR ? HANSOBRIK_SYNC_BYTES_1 : HANSOBRIK_SYNC_BYTES_2;
+    n = sync_bytes(f);
     needs(hansobrik_put_sync(f, room, n).refused, hansobrik_put_sync(f, room, n - 1).refused, OUT, "put_sync", f);
-    n = f == HANSOBRIK_S_VISSR ? HANSOBRIK_WIRE_BYTES_1 : HANSOBRIK_WIRE_BYTES_2;
+    n = wire_bytes(f);
     needs(hansobrik_write_line(f, line, all, aligned, n).refused, hansobrik_write_line(f, line, all, aligned, n - 1).refused,
           OUT, "write_line", f);
 }
@@ -143,7 +184,7 @@ static void block_sizes(uint8_t f)
     const hansobrik_assembly none = hansobrik_fresh_assembly();
     hansobrik_assembly done = none;
     done.marks = HANSOBRIK_ALL_MARKS;
-    uint8_t last = f == HANSOBRIK_S_VISSR ? HANSOBRIK_CALIBRATION_2 : HANSOBRIK_CALIBRATION_1;
+    uint8_t last = f == HANSOBRIK_HIRID ? HANSOBRIK_CALIBRATION_1 : HANSOBRIK_CALIBRATION_2;
     for (uint8_t b = HANSOBRIK_MAPPING; b <= last; b++) {
         size_t n = sizes[b - 1];
         needs(hansobrik_add_segment(f, none, line, all, b, block, n).refused,
@@ -159,7 +200,7 @@ static void block_sizes(uint8_t f)
           "mapping", f);
     n = HANSOBRIK_ORBIT_BYTES;
     needs(hansobrik_elements(f, done, block, n).refused, hansobrik_elements(f, done, block, n - 1).refused, IN, "elements", f);
-    if (f == HANSOBRIK_S_VISSR) {
+    if (f != HANSOBRIK_HIRID) {
         n = HANSOBRIK_CALIBRATION_2_BYTES;
         needs(hansobrik_albedo(f, done, block, n, 4, 63).refused, hansobrik_albedo(f, done, block, n - 1, 4, 63).refused, IN,
               "albedo", 4);
@@ -172,7 +213,7 @@ static void block_sizes(uint8_t f)
  * tail, the last 64 bits of SYNC, has so many wrong bits. */
 static void make_recording(uint8_t format, unsigned late, uint8_t wrong)
 {
-    size_t tail = (format == HANSOBRIK_S_VISSR ? HANSOBRIK_SYNC_BYTES_1 : HANSOBRIK_SYNC_BYTES_2) - 8;
+    size_t tail = sync_bytes(format) - 8;
     recorded = 0;
     for (unsigned i = 0; i < LINES; i++) {
         make_line(format, 0, 0, (uint8_t)(i + 1), sent[i]);
@@ -268,10 +309,12 @@ static void rests(uint8_t format)
     expect(reader.rest_count == 0, "the piece is used up", format);
     expect(hansobrik_reader_offer(&reader, recording, recorded), "then the next one is taken", format);
 
-    reader = hansobrik_reader_fresh(3, 0);
-    expect(hansobrik_reader_offer(&reader, recording, recorded), "a fresh reader takes a piece", 3);
-    expect(!hansobrik_reader_line(&reader, line, sizeof line), "an unknown format is refused", 3);
-    expect(reader.refused == HANSOBRIK_REFUSED_FORMAT, "with its number", reader.refused);
+    for (uint8_t unknown = 0; unknown <= HANSOBRIK_S_VISSR_ONES + 1; unknown += HANSOBRIK_S_VISSR_ONES + 1) {
+        reader = hansobrik_reader_fresh(unknown, 0);
+        expect(hansobrik_reader_offer(&reader, recording, recorded), "a fresh reader takes a piece", unknown);
+        expect(!hansobrik_reader_line(&reader, line, sizeof line), "an unknown format is refused", unknown);
+        expect(reader.refused == HANSOBRIK_REFUSED_FORMAT, "with its number", reader.refused);
+    }
 }
 
 int main(void)
@@ -280,7 +323,8 @@ int main(void)
     version();
     words();
     names();
-    for (uint8_t format = HANSOBRIK_S_VISSR; format <= HANSOBRIK_HIRID; format++) {
+    formats();
+    for (uint8_t format = HANSOBRIK_S_VISSR; format <= HANSOBRIK_S_VISSR_ONES; format++) {
         sector_sizes(format);
         block_sizes(format);
         make_recording(format, format + 1u, 0);

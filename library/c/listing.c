@@ -1,8 +1,9 @@
-/* listing [-2] [-s K] [FILE]: the lines of the recording FILE, or of standard input where FILE is - or none is named, in format
- * 1 or with -2 in format 2, read with the setting K, 0 to 6, or else 0. For each line it writes `line N good G filler F`: N
- * counts from 1, G are the accepted ones of the twelve sectors, F the filler bits that are set in all of them. At the end it
- * writes `total N`, and where the recording stops inside a line it says so on standard error. Status 2 for other words; 1 where
- * the recording cannot be read or the listing not be written, and then there is no `total`.
+/* listing [-2|-3] [-s K] [FILE]: the lines of the recording FILE, or of standard input where FILE is - or none is named, in
+ * format 1, with -2 in format 2 or with -3 in format 3, read with the setting K, 0 to 6, or else 0. For each line it writes
+ * `line N good G filler F`: N counts from 1, G are the accepted ones of the twelve sectors, F the filler bits that are set in
+ * all of them. At the end it writes `total N`, and where the recording stops inside a line it says so on standard error. Status
+ * 2 for other words and for two formats; 1 where the recording cannot be read or the listing not be written, and then there is
+ * no `total`.
  *
  * One line buffer and one piece are all its memory, however long the recording is. */
 #include "hansobrik.h"
@@ -71,14 +72,16 @@ int main(int argc, char **argv)
     uint8_t format = HANSOBRIK_S_VISSR, setting = 0;
     const char *name = NULL;
     for (int i = 1; i < argc; i++) {
-        if (strcmp(argv[i], "-2") == 0) {
+        if (strcmp(argv[i], "-2") == 0 && format != HANSOBRIK_S_VISSR_ONES) {
             format = HANSOBRIK_HIRID;
+        } else if (strcmp(argv[i], "-3") == 0 && format != HANSOBRIK_HIRID) {
+            format = HANSOBRIK_S_VISSR_ONES;
         } else if (strcmp(argv[i], "-s") == 0 && is_setting(argv[i + 1])) {
             setting = (uint8_t)(argv[++i][0] - '0');
         } else if (name == NULL && (argv[i][0] != '-' || argv[i][1] == '\0')) {
             name = argv[i];
         } else {
-            fprintf(stderr, "usage: listing [-2] [-s K] [FILE]\n");
+            fprintf(stderr, "usage: listing [-2|-3] [-s K] [FILE]\n");
             return 2;
         }
     }

@@ -186,7 +186,69 @@ static inline hansobrik_add_answer by_tables(foreign is, ADDING)
     return a;
 }
 
-#if FAULT == 0 /* none, with the search and the test of the tables made here: by the right rules they are the library's */
+/* For wrong checks: a bit of a line, the places of a sector, and the remainder of its ID, data and check bits, where those of
+ * the start value are added to the first sixteen of them. */
+static inline uint16_t bit_of(const uint8_t *p, size_t i) { return p[i / 8] >> (7 - i % 8) & 1; }
+static inline size_t sector_start(uint8_t s) { return s == 1 ? 0 : filler_end((uint8_t)(s - 1)); }
+static inline size_t id_bits(uint8_t s) { return s >= 5 && s <= 8 ? 12 : 16; }
+static inline uint16_t left_from(uint16_t start, const uint8_t *p, uint8_t s)
+{
+    uint32_t left = 0;
+    for (size_t i = 0; i < filler_start(s) - sector_start(s); i++) {
+        left = left << 1 | bit_of(p, sector_start(s) + i);
+        left ^= i < 16 ? start >> (15 - i) & 1u : 0;
+        if (left > 0xFFFF)
+            left ^= 0x11021;
+    }
+    return (uint16_t)left;
+}
+
+/* Whether the ID is the sector's own, which is the one that the library writes. */
+static inline bool own_id(const uint8_t *p, uint8_t s)
+{
+    static uint8_t line[HANSOBRIK_LINE_BYTES], data[HANSOBRIK_DATA_BYTES_6];
+    hansobrik_put_data(1, line, sizeof line, s, data, sizeof data);
+    for (size_t i = sector_start(s); i < sector_start(s) + id_bits(s); i++)
+        if (bit_of(line, i) != bit_of(p, i))
+            return false;
+    return true;
+}
+
+/* accepted, with the check made here: from a start value, so much must be left. */
+static inline uint8_t by_check(uint16_t start, uint16_t left, uint8_t f, BYTES, uint8_t s)
+{
+    uint8_t a = hansobrik_accepted(f, p, c, s);
+    if (a != 0 && a != 5 && a != 6)
+        return a;
+    if (left_from(start, p, s) != left)
+        return 5;
+    return own_id(p, s) ? 0 : 6;
+}
+
+/* put_data, with the check word made here, from a start value. */
+static inline uint8_t put_from(uint16_t start, uint8_t f, uint8_t *p, size_t c, uint8_t s, const uint8_t *o, size_t d)
+{
+    uint8_t a = hansobrik_put_data(f, p, c, s, o, d);
+    if (a)
+        return a;
+    /* what is left changes with the check word as the check word does */
+    uint16_t left = left_from(start, p, s);
+    for (size_t i = 0; i < 16; i++)
+        if (left >> (15 - i) & 1)
+            p[(filler_start(s) - 16 + i) / 8] ^= (uint8_t)(0x80 >> (filler_start(s) - 16 + i) % 8);
+    return 0;
+}
+#define CHECKING uint8_t f, BYTES, uint8_t s
+#define PUTTING uint8_t f, uint8_t *p, size_t c, uint8_t s, const uint8_t *o, size_t d
+/* another format in the place of format 3 */
+#define FOR_3(other) (uint8_t)(f == HANSOBRIK_S_VISSR_ONES ? (other) : f)
+#define OWN_START (uint16_t)(f == HANSOBRIK_S_VISSR_ONES ? 0xFFFF : 0)
+
+#if FAULT == 0 /* none, but search, test of the tables and check are made here: by the right rules they are the library's */
+static uint8_t right_accepted(CHECKING) { return by_check(OWN_START, 0, f, p, c, s); }
+#define hansobrik_accepted right_accepted
+static uint8_t right_put(PUTTING) { return put_from(OWN_START, f, p, c, s, o, d); }
+#define hansobrik_put_data right_put
 static hansobrik_read_answer right_read(READING) { return by_rule(near_tail, f, k, s, p, c, o, d); }
 #define hansobrik_read right_read
 static hansobrik_add_answer right_add(ADDING) { return by_tables(other_tables, f, k, p, c, n, o, d); }
@@ -309,7 +371,7 @@ static hansobrik_integer_answer wrong(uint8_t f, BYTES, size_t x, size_t n)
 #elif FAULT == 14 /* pixels over their width behind the last one taken are refused */
 static uint8_t wrong(uint8_t f, uint8_t *p, size_t c, uint8_t s, const uint16_t *o, size_t d)
 {
-    if (f - 1u < 2 && s == 12)
+    if (f - 1u < 3 && s == 12)
         for (size_t i = 0; i < d; i++)
             if (o[i] > 1023)
                 return 10;
@@ -604,7 +666,7 @@ static hansobrik_add_answer wrong(ADDING)
 #elif FAULT == 55 /* numbers without a mark are an impossible record */
 static hansobrik_add_answer wrong(ADDING)
 {
-    if ((f == 1 || f == 2) && k.marks == 0 && has_numbers(k))
+    if (f - 1u < 3 && k.marks == 0 && has_numbers(k))
         return refused(12, k);
     return hansobrik_add_segment(f, k, p, c, n, o, d);
 }
@@ -716,10 +778,10 @@ static hansobrik_grid_answer wrong(uint8_t f, hansobrik_assembly k, BYTES, uint1
 #if FAULT == 66 /* 180 is given as west */
     if (a.longitude == 180)
         a.longitude = -180;
-#elif FAULT == 67 /* 80 in both formats */
-    if (f == HANSOBRIK_S_VISSR)
+#elif FAULT == 67 /* 80 in all formats */
+    if (f != HANSOBRIK_HIRID)
         a.longitude = (int16_t)(a.longitude + (a.longitude > 145 ? 35 - 360 : 35));
-#elif FAULT == 68 /* 45 in both formats, as it was */
+#elif FAULT == 68 /* 45 in all formats, as it was */
     if (f == HANSOBRIK_HIRID)
         a.longitude = (int16_t)(45 + 5 * y);
 #elif FAULT == 69 /* 180 less the degrees, for the degrees less 360 */
@@ -744,4 +806,119 @@ static hansobrik_grid_answer wrong(uint8_t f, hansobrik_assembly k, BYTES, uint1
     return a;
 }
 #define hansobrik_mapping wrong
+#elif FAULT == 75 /* the reader refuses format 3 */
+static hansobrik_read_answer wrong(READING) { return hansobrik_read(FOR_3(4), k, s, p, c, o, d); }
+#define hansobrik_read wrong
+#elif FAULT == 76 /* format 4 is served */
+static hansobrik_format_answer wrong(uint8_t f) { return hansobrik_format(f == 4 ? 3 : f); }
+#define hansobrik_format wrong
+#elif FAULT == 77 /* a format by its low two bits: 7 is 3 */
+static uint8_t wrong(CHECKING) { return hansobrik_accepted(f & 3, p, c, s); }
+#define hansobrik_accepted wrong
+#elif FAULT == 78 /* the strip with 0 */
+static hansobrik_strip_answer wrong(uint8_t f, BYTES, uint8_t *o, size_t d) { return hansobrik_strip(FOR_3(1), p, c, o, d); }
+#define hansobrik_strip wrong
+#elif FAULT == 79 /* the lower part of joined pixels with 0 */
+static uint8_t wrong(uint8_t f, BYTES, uint8_t s, uint16_t *o, size_t d)
+{
+    static uint8_t upper[HANSOBRIK_IR_PIXELS], lower[HANSOBRIK_IR_PIXELS];
+    bool tested = f == 3 && s - 1u < 3 && d >= HANSOBRIK_IR_PIXELS;
+    if (!tested || hansobrik_pixels(3, p, c, (uint8_t)(s + 1), upper, sizeof upper))
+        return hansobrik_joined(f, p, c, s, o, d);
+    uint8_t a = hansobrik_pixels(1, p, c, (uint8_t)(s + 8), lower, sizeof lower);
+    for (size_t i = 0; !a && i < HANSOBRIK_IR_PIXELS; i++)
+        o[i] = (uint16_t)(4 * upper[i] + lower[i]);
+    return a;
+}
+#define hansobrik_joined wrong
+#elif FAULT == 80 /* data are written with 0 */
+static uint8_t wrong(PUTTING) { return hansobrik_put_data(FOR_3(1), p, c, s, o, d); }
+#define hansobrik_put_data wrong
+#elif FAULT == 81 /* pixels are written with 0 */
+static uint8_t wrong(PUTTING) { return hansobrik_put_pixels(FOR_3(1), p, c, s, o, d); }
+#define hansobrik_put_pixels wrong
+#elif FAULT == 82 /* those of IR4 are */
+static uint8_t wrong(uint8_t f, uint8_t *p, size_t c, uint8_t s, const uint16_t *o, size_t d)
+{
+    return hansobrik_put_pixels_wide(FOR_3(1), p, c, s, o, d);
+}
+#define hansobrik_put_pixels_wide wrong
+#elif FAULT == 83 /* read from fffe */
+static uint8_t wrong(CHECKING) { return by_check(OWN_START & 0xFFFE, 0, f, p, c, s); }
+#define hansobrik_accepted wrong
+#elif FAULT == 84 /* written from fffe */
+static uint8_t wrong(PUTTING) { return put_from(OWN_START & 0xFFFE, f, p, c, s, o, d); }
+#define hansobrik_put_data wrong
+#elif FAULT == 85 /* the last sixteen bits are inverted and not the first */
+static uint8_t wrong(CHECKING) { return by_check(0, OWN_START, f, p, c, s); }
+#define hansobrik_accepted wrong
+#elif FAULT == 86 /* of a visible sector the ID's twelve bits alone */
+static uint8_t wrong(CHECKING) { return by_check(OWN_START & (s - 5u < 4 ? 0xFFF0 : 0xFFFF), 0, f, p, c, s); }
+#define hansobrik_accepted wrong
+#elif FAULT == 87 /* a sector of either card is accepted */
+static uint8_t wrong(CHECKING)
+{
+    uint8_t a = hansobrik_accepted(f, p, c, s);
+    return a == 5 ? hansobrik_accepted(f == 3 ? 1 : 3, p, c, s) : a;
+}
+#define hansobrik_accepted wrong
+#elif FAULT == 88 /* format 1 with ones */
+static uint8_t wrong(CHECKING) { return hansobrik_accepted(f == 1 ? 3 : f, p, c, s); }
+#define hansobrik_accepted wrong
+#elif FAULT == 89 /* format 2 with ones */
+static hansobrik_twelve_answer wrong(uint8_t f, BYTES) { return hansobrik_answers(f == 2 ? 3 : f, p, c); }
+#define hansobrik_answers wrong
+#elif FAULT == 90 /* of the twelve answers that of IR4 with 0 */
+static hansobrik_twelve_answer wrong(uint8_t f, BYTES)
+{
+    hansobrik_twelve_answer a = hansobrik_answers(f, p, c);
+    a.answers[11] = hansobrik_answers(FOR_3(1), p, c).answers[11];
+    return a;
+}
+#define hansobrik_answers wrong
+#elif FAULT == 91 /* a sector's data with 0 */
+static uint8_t wrong(CHECKING, uint8_t *o, size_t d) { return hansobrik_data(FOR_3(1), p, c, s, o, d); }
+#define hansobrik_data wrong
+#elif FAULT == 92 /* a documentation field with 0 */
+static hansobrik_date_answer wrong(uint8_t f, BYTES) { return hansobrik_date(FOR_3(1), p, c); }
+#define hansobrik_date wrong
+#elif FAULT == 93 /* a segment with 0 */
+static hansobrik_add_answer wrong(ADDING) { return hansobrik_add_segment(FOR_3(1), k, p, c, n, o, d); }
+#define hansobrik_add_segment wrong
+#elif FAULT == 94 /* 20,000 bits of SYNC in format 3 */
+static hansobrik_count_answer wrong(uint8_t f, uint8_t *o, size_t d) { return hansobrik_put_sync(FOR_3(2), o, d); }
+#define hansobrik_put_sync wrong
+#elif FAULT == 95 /* the same of a line on the wire */
+static hansobrik_count_answer wrong(uint8_t f, BYTES, uint8_t *o, size_t d)
+{
+    return hansobrik_write_line(FOR_3(2), p, c, o, d);
+}
+#define hansobrik_write_line wrong
+#elif FAULT == 96 /* calibration-2 refused in format 3 */
+static hansobrik_add_answer wrong(ADDING) { return hansobrik_add_segment(n == 5 ? FOR_3(2) : f, k, p, c, n, o, d); }
+#define hansobrik_add_segment wrong
+#elif FAULT == 97 /* its levels refused */
+static hansobrik_level_answer wrong(LEVEL) { return hansobrik_temperature(FOR_3(2), k, p, c, x, y); }
+#define hansobrik_temperature wrong
+#elif FAULT == 98 /* longitudes from 80 in format 3 */
+static hansobrik_grid_answer wrong(uint8_t f, hansobrik_assembly k, BYTES, uint16_t x, uint16_t y)
+{
+    return hansobrik_mapping(FOR_3(2), k, p, c, x, y);
+}
+#define hansobrik_mapping wrong
+#elif FAULT >= 99 && FAULT <= 101
+static hansobrik_format_answer wrong(uint8_t f)
+{
+    hansobrik_format_answer a = hansobrik_format(f);
+#if FAULT == 99 /* the start value is said to be 0 */
+    a.check_start = 0;
+#elif FAULT == 100 /* it is cut to a byte */
+    a.check_start &= 255;
+#elif FAULT == 101 /* a format that is none has one */
+    if (a.refused)
+        a.check_start = 0xFFFF;
+#endif
+    return a;
+}
+#define hansobrik_format wrong
 #endif

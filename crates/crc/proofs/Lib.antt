@@ -1,3 +1,5 @@
+pub mod Starts
+pub mod Inverted
 pub mod Steps
 pub mod Division
 pub mod Preset

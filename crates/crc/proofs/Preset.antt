@@ -31,6 +31,15 @@ preset-zero (b ∷ bs) h =
     let e : (b + 0) % 2 ≡ b = omega (arith, h .0) in
     ap₂ (λ (x : ℕ) (l : List ℕ). x ∷ l) e (preset-zero bs (h .1))
 
+-- behind the first sixteen bits nothing is left of it
+pub preset-past : (s : ℕ) (bs : List ℕ) → Below 2 bs → preset (s * 2 ^ 16) bs ≡ bs
+unfolding preset Below
+preset-past s [] h = refl
+preset-past s (b ∷ bs) h =
+    let same : (b + s * 2 ^ 16 / 2 ^ 15) % 2 ≡ b = omega (arith, h .0) in
+    let on : s * 2 ^ 16 * 2 ≡ s * 2 * 2 ^ 16 = omega arith in
+    ap₂ (λ (x : ℕ) (l : List ℕ). x ∷ l) same (ap (λ (n : ℕ). preset n bs) on ∙ preset-past (s * 2) bs (h .1))
+
 -- what is left of the start value goes on
 pub preset-append : (start : ℕ) (xs ys : List ℕ) → preset start (xs ++ ys) ≡ preset start xs ++ preset (start * 2 ^ length xs) ys
 unfolding preset

@@ -2,7 +2,7 @@
 // check word that makes a remainder 0.
 //
 // The contracts cite `specs/Remainder.antt`; `specs/Division.antt` says what a remainder is, and the proofs join the
-// two. Every function takes the start value of the check, 0 in both formats: its bits are put on the first sixteen.
+// two. Every function takes the start value of the check, which is the format's: its bits are put on the first sixteen.
 //
 // The functions here are inner: those that go through a slice ask that the bits they are given lie in it, and the
 // calls above, which users make, refuse instead.

@@ -70,7 +70,7 @@ wrote n f e line out count answer =
     }
 
 -- what they make is the recording of the plain lines
-recording-is : (n : ℕ) (f : Format) → formatOf n ≡ Is f → {ls : List (List ℕ)} {bytes : List ℕ} → Recording n ls bytes
+pub recording-is : (n : ℕ) (f : Format) → formatOf n ≡ Is f → {ls : List (List ℕ)} {bytes : List ℕ} → Recording n ls bytes
     → PlainLines (map (take lineBytes) ls) × (bytes ≡ recordingOf f (map (take lineBytes) ls))
 unfolding PlainLines recordingOf
 recording-is n f e trip.Recording.none = (tt, refl)
@@ -79,7 +79,7 @@ recording-is n f e (trip.Recording.next {count = count} line out small answer r)
     let rest = recording-is n f e r in
     ((record { long = length-take-le lineBytes line (w .full); bytes = below-take 256 lineBytes line small }, rest .0), ap₂ (λ (x y : List ℕ). x ++ y) (w .put) (rest .1))
 
-lines-in : (ls : List (List ℕ)) → map bitsOf (map (take lineBytes) ls) ≡ map lineIn ls
+pub lines-in : (ls : List (List ℕ)) → map bitsOf (map (take lineBytes) ls) ≡ map lineIn ls
 unfolding lineIn
 lines-in [] = refl
 lines-in (l ∷ ls) = ap (λ (x : List (List ℕ)). bitsOf (take lineBytes l) ∷ x) (lines-in ls)
@@ -89,7 +89,7 @@ unfolding lineIn
 nth-line ls i = ap (λ (x : List ℕ). getD (map lineIn ls) i x) (sym no-bits) ∙ List·getD-map lineIn ls i []
 
 -- the i-th line written has the bits of the line in a buffer: what its sectors held comes back from that buffer
-held-back : (n : ℕ) (ls : List (List ℕ)) (i sector : ℕ) (w : Put) (buf : List ℕ) → Holds n sector w (getD ls i []) → lineBytes ≤ length buf → lineIn buf ≡ getD (map lineIn ls) i []
+pub held-back : (n : ℕ) (ls : List (List ℕ)) (i sector : ℕ) (w : Put) (buf : List ℕ) → Holds n sector w (getD ls i []) → lineBytes ≤ length buf → lineIn buf ≡ getD (map lineIn ls) i []
     → ComesBack n sector w buf
 held-back n ls i sector w buf h full stands =
     let c = holds-carries n sector w h in
@@ -105,7 +105,7 @@ module _ (n : ℕ) (f : Format) (e : formatOf n ≡ Is f) (setting : ℕ) (small
   pub demand-2 : (ps : List (List ℕ)) → inARow ps ≡ recording → (out : List (List ℕ)) → Driven n setting lend 0 freshState first ps out → ComeBack n ls out
   demand-2 ps cut out d =
       let is = recording-is n f e r in
-      let same : out ≡ map lineIn ls = there-and-back n f e setting small lend long first room (map (take lineBytes) ls) (is .0) ps (cut ∙ is .1) out .0 d ∙ lines-in ls in
+      let same : out ≡ map lineIn ls = there-and-back n f e n f e setting small lend long first room (map (take lineBytes) ls) (is .0) ps (cut ∙ is .1) out .0 d ∙ lines-in ls in
       record { same = same; held = λ i sector w buf h full stands. held-back n ls i sector w buf h full (stands ∙ ap (λ (x : List (List ℕ)). getD x i []) same) }
 
   -- and already while it is read: at every moment at which a line stands whole in the buffer, the i-th handed out, what the sectors

@@ -21,13 +21,14 @@ use Rattle.demands.specs.RoundTrip.{PlainLine, PlainLines, recordingOf}
 use Rattle.demands.proofs.RoundTrip.{round-trip}
 
 -- DEMAND 2 WITH DEMAND 3: the recording of any run of plain lines, cut into any pieces, read by a fresh reader at any
--- setting with any full-size buffers: the lines handed out are exactly those lines, in order
-pub there-and-back : (n : ℕ) (f : Format) → formatOf n ≡ Is f → (setting : ℕ) → setting ≤ largestSetting
+-- setting with any full-size buffers: the lines handed out are exactly those lines, in order. What was written in one format may be
+-- read in another: where the lines stand does not go by it
+pub there-and-back : (n : ℕ) (f : Format) → formatOf n ≡ Is f → (m : ℕ) (g : Format) → formatOf m ≡ Is g → (setting : ℕ) → setting ≤ largestSetting
     → (lend : ℕ → List ℕ → List ℕ) → ((k : ℕ) (buf : List ℕ) → 44356 ≤ length buf → 44356 ≤ length (lend k buf)) → (buf : List ℕ) → 44356 ≤ length buf
     → (ls : List (List ℕ)) → PlainLines ls → (ps : List (List ℕ)) → inARow ps ≡ recordingOf f ls
-    → (out : List (List ℕ)) → Driven n setting lend 0 freshState buf ps out ↔ (out ≡ map bitsOf ls)
-there-and-back n f e setting small lend long buf room ls plain ps cut out =
-    let d = demand-3 n f e setting small lend long buf room ps out in
+    → (out : List (List ℕ)) → Driven m setting lend 0 freshState buf ps out ↔ (out ≡ map bitsOf ls)
+there-and-back n f e m g h setting small lend long buf room ls plain ps cut out =
+    let d = demand-3 m g h setting small lend long buf room ps out in
     let same : recorded setting (inARow ps) ≡ map bitsOf ls = ap (recorded setting) cut ∙ round-trip n f e setting (omega arith) ls plain in
     (λ x. d .0 x ∙ same, λ y. d .1 (y ∙ sym same))
 

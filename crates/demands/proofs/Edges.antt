@@ -10,7 +10,11 @@ use Rattle.scramble.specs.Register.{newBit, nextRegister, scramblingBits}
 use Rattle.scramble.specs.Sync.{fifteenOnes}
 use Rattle.scramble.specs.Wire.{complemented, scrambled, wireOf}
 use Rattle.wire.specs.Parts.{informationOf}
+use Rattle.crc.specs.Remainder.{checkWordOf}
+use Rattle.formats.specs.Formats.{checkStart}
 use Rattle.sectors.specs.Layout.{sectors, layoutOf}
+use Rattle.sectors.specs.Sector.{answerOf}
+use Rattle.sector_frame.specs.Written.{headOf}
 use Rattle.sector_rounds.proofs.Points.{p3-word, p3-accepted, p4, p5, p6, p7}
 use Rattle.demands.specs.Edges.{docWord, Edges}
 
@@ -23,20 +27,24 @@ unfolding informationOf wireOf complemented scrambled newBit nextRegister bitsOf
 p2 rest = refl
 
 -- DOC: where it starts, its bits, and its data bits
-doc-data : 18328 ≡ layoutOf 1 .«data_bits»
+pub doc-data : 18328 ≡ layoutOf 1 .«data_bits»
 unfolding layoutOf sectors
 doc-data = refl
 
-doc-start : layoutOf 1 .start ≡ 0
+pub doc-start : layoutOf 1 .start ≡ 0
 unfolding layoutOf sectors
 doc-start = refl
 
-doc-bits : layoutOf 1 .bits ≡ 20408
+pub doc-bits : layoutOf 1 .bits ≡ 20408
 unfolding layoutOf sectors
 doc-bits = refl
 
-p3 : (format : ℕ) → docWord format (replicate 18328 0) ≡ 0x0000
-p3 format = ap (docWord format) (sym (append-nil (replicate 18328 0))) ∙ p3-word format 18328 doc-data
+-- from the start value that a format has
+pub from-start : (format start : ℕ) (bits : List ℕ) → checkStart format ≡ start → docWord format bits ≡ checkWordOf start (headOf (layoutOf 1) bits)
+from-start format start bits e = ap (λ (s : ℕ). checkWordOf s (headOf (layoutOf 1) bits)) e
+
+p3 : (format : ℕ) → checkStart format ≡ 0 → docWord format (replicate 18328 0) ≡ 0x0000
+p3 format zero = ap (docWord format) (sym (append-nil (replicate 18328 0))) ∙ from-start format 0 _ zero ∙ p3-word 18328 doc-data
 
 pub edges : Edges
 edges =
@@ -44,9 +52,9 @@ edges =
       P1 = p1;
       P2 = p2;
       P3 = p3;
-      P3-accepted = λ format line e. p3-accepted format line (rw (doc-start, doc-bits) e);
-      P4 = λ format. p4 format 18327 doc-data;
-      P5 = λ format. p5 format 18326 doc-data;
+      P3-accepted = λ format zero line e. ap (λ (s : ℕ). answerOf s (layoutOf 1) line) zero ∙ p3-accepted line (rw (doc-start, doc-bits) e);
+      P4 = λ format zero. from-start format 0 _ zero ∙ p4 18327 doc-data;
+      P5 = λ format zero. from-start format 0 _ zero ∙ p5 18326 doc-data;
       P6 = p6;
       P7 = p7;
       P8 = p8;

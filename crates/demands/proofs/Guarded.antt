@@ -16,7 +16,7 @@ use Rattle.bits.proofs.Distance.{apart-self, apart-sym, apart-triangle, apart-f
 use Rattle.formats.specs.Formats.{formatOf, informationBits}
 use Rattle.formats.specs.declared.Format.{Format}
 use Rattle.formats.specs.declared.FormatAnswer.the-variants.{Is}
-use Rattle.formats.proofs.Which.{either}
+use Rattle.formats.proofs.Which.{of-each}
 use Rattle.scramble.specs.Register.{newBit, nextRegister, scramblingBits}
 use Rattle.scramble.specs.Sync.{earlierRegister, registerBefore, SYNC, tail}
 use Rattle.scramble.proofs.Wire.{length-wire}
@@ -163,7 +163,7 @@ same-near k h sent = record {
 -- ---- what is written
 
 long-enough : (n : ℕ) (f : Format) → formatOf n ≡ Is f → 127 ≤ f .sync
-long-enough = either (λ f. 127 ≤ f .sync) (lit≤ tt) (lit≤ tt)
+long-enough = of-each (λ f. 127 ≤ f .sync) (lit≤ tt) (lit≤ tt) (lit≤ tt)
 
 sync-end : (f : Format) → 127 ≤ f .sync → drop (f .sync - 127) (SYNC (f .sync)) ≡ SYNC 127
 sync-end f h = let e : f .sync ≡ f .sync - 127 + 127 = omega arith in ap (λ (k : ℕ). drop (f .sync - 127) (SYNC k)) e ∙ sync-ends (f .sync - 127) 127
@@ -206,4 +206,4 @@ module _ (n : ℕ) (f : Format) (e : formatOf n ≡ Is f) where
   dummy-short = rw (length-dummy f) (short n f e)
     where
       short : (n : ℕ) (f : Format) → formatOf n ≡ Is f → f .dummy < informationBits
-      short = either (λ f. f .dummy < informationBits) (lit< tt) (lit< tt)
+      short = of-each (λ f. f .dummy < informationBits) (lit< tt) (lit< tt) (lit< tt)

@@ -1,4 +1,4 @@
--- NINE IS THE SMALLEST NUMBER of both formats, bound and witness: no window that is searched before a true tail differs from the tail in
+-- NINE IS THE SMALLEST NUMBER of every format, bound and witness: no window that is searched before a true tail differs from the tail in
 -- fewer places, and one of SYNC differs in nine. Assumes nothing.
 use mathlib.Core.Bool.{true}
 use mathlib.Core.Path.{_≡_, refl}
@@ -8,10 +8,10 @@ use borrow.Author.Tests.{le-leb}
 use lib.Dec.{lit<}
 use lib.ListN.{take, drop}
 use Rattle.bits.specs.Bits.{apart}
-use Rattle.formats.specs.Formats.{svissr, hirid, formatOf}
+use Rattle.formats.specs.Formats.{svissr, hirid, svissrOnes, formatOf}
 use Rattle.formats.specs.declared.Format.{Format}
 use Rattle.formats.specs.declared.FormatAnswer.the-variants.{Is}
-use Rattle.formats.proofs.Which.{either}
+use Rattle.formats.proofs.Which.{of-each}
 use Rattle.scramble.specs.Register.{newBit, nextRegister, scramblingBits}
 use Rattle.scramble.specs.Sync.{earlierRegister, registerBefore, SYNC, tail}
 use Rattle.fixed.specs.Written.{firstSearched}
@@ -36,9 +36,13 @@ nine-2 : Windows hirid → Smallest hirid 9
 unfolding firstSearched
 nine-2 w = record { before-first = w .before-first; before-next = w .before-next; place = 5409; before = lit< tt; met = at-2 }
 
+nine-3 : Windows svissrOnes → Smallest svissrOnes 9
+unfolding firstSearched
+nine-3 w = record { before-first = w .before-first; before-next = w .before-next; place = 5782; before = lit< tt; met = at-1 }
+
 -- THE NUMBER
 pub nine : (n : ℕ) (f : Format) → formatOf n ≡ Is f → Smallest f 9
-nine n f e = either (λ g. Windows g → Smallest g 9) nine-1 nine-2 n f e (earlier-apart n f e)
+nine n f e = of-each (λ g. Windows g → Smallest g 9) nine-1 nine-2 nine-3 n f e (earlier-apart n f e)
 
 -- and there is one such number
 pub only-one : {f : Format} {a b : ℕ} → Smallest f a → Smallest f b → a ≡ b

@@ -1,5 +1,5 @@
--- P2 ON THE REAL CALL: what `write_line` puts behind SYNC for a plain line that opens 00 00 00 00 is 00 FD 00 F3, in both
--- formats. Assumes nothing.
+-- P2 ON THE REAL CALL: what `write_line` puts behind SYNC for a plain line that opens 00 00 00 00 is 00 FD 00 F3, in
+-- every format. Assumes nothing.
 use mathlib.Core.List.{List, [], _∷_, _++_, append-assoc}
 use mathlib.Core.Path.{_≡_, refl, sym, ap, ap₂, _∙_}
 use Prim.Native.Nat.{ℕ, zero, suc, _+_, _-_, _*_, _/_, _≤_, _<_}

@@ -59,6 +59,7 @@ pub unique : Unique
 unique = record {
   format-1 = equation _;
   format-2 = equation _;
+  format-3 = equation _;
   format-of = λ n. settled _ _ (format-is n);
   stepped = λ register r s p q.
       ap₂ (λ (a : StepBit) (b : ℕ). record { next = record { bits = b }; answer = a }) (settled _ _ (step-is register) (r .answer) (s .answer) (p .0) (q .0)) (p .1 ∙ sym (q .1));

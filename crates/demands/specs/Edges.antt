@@ -1,4 +1,5 @@
--- The edges that document 01 marks P, as one list, each over the rules themselves. Assumes nothing.
+-- The edges that document 01 marks P, as one list, each over the rules themselves; P3 to P5 of the formats whose check starts from
+-- 0. What format 3 says of their sectors stands in `specs/Ones`. Assumes nothing.
 use mathlib.Core.Bool.{true, false}
 use mathlib.Core.List.{List, [], _∷_, _++_}
 use mathlib.Core.Path.{_≡_}
@@ -31,13 +32,13 @@ pub record Edges : Type 0 where
   -- a plain line opening 00 00 00 00 goes out as 00 FD 00 F3
   pub P2 : (rest : List ℕ) → take 32 (informationOf (bitsOf (0x00 ∷ 0x00 ∷ 0x00 ∷ 0x00 ∷ rest))) ≡ bitsOf (0x00 ∷ 0xfd ∷ 0x00 ∷ 0xf3 ∷ [])
   -- a DOC sector of zeros, 18,328 data bits, has check word 0000 ..
-  pub P3 : (format : ℕ) → docWord format (replicate 18328 0) ≡ 0x0000
+  pub P3 : (format : ℕ) → checkStart format ≡ 0 → docWord format (replicate 18328 0) ≡ 0x0000
   -- .. and is accepted, in any line
-  pub P3-accepted : (format : ℕ) (line : List ℕ) → stretch line 0 20408 ≡ replicate 20408 0 → answerOf (checkStart format) (layoutOf 1) line ≡ 0
+  pub P3-accepted : (format : ℕ) → checkStart format ≡ 0 → (line : List ℕ) → stretch line 0 20408 ≡ replicate 20408 0 → answerOf (checkStart format) (layoutOf 1) line ≡ 0
   -- only the last data bit set: 1021
-  pub P4 : (format : ℕ) → docWord format (replicate 18327 0 ++ 1 ∷ []) ≡ 0x1021
+  pub P4 : (format : ℕ) → checkStart format ≡ 0 → docWord format (replicate 18327 0 ++ 1 ∷ []) ≡ 0x1021
   -- only the one before: 2042
-  pub P5 : (format : ℕ) → docWord format (replicate 18326 0 ++ 1 ∷ 0 ∷ []) ≡ 0x2042
+  pub P5 : (format : ℕ) → checkStart format ≡ 0 → docWord format (replicate 18326 0 ++ 1 ∷ 0 ∷ []) ≡ 0x2042
   -- upper 255, lower 3: 1023
   pub P6 : joinedOf (255 ∷ []) (3 ∷ []) ≡ 1023 ∷ []
   -- upper 1, lower 0: 4

@@ -7,3 +7,4 @@ pub mod Demand3
 pub mod Contracts
 pub mod Unique
 pub mod Iced
+pub mod Ones

@@ -5,7 +5,7 @@ use mathlib.Core.List.{List}
 use mathlib.Core.Path.{_≡_}
 use Prim.Native.Nat.{ℕ}
 use Rattle.bits.specs.Bits.{Below}
-use Rattle.formats.specs.Formats.{svissr, hirid, FormatOk}
+use Rattle.formats.specs.Formats.{svissr, hirid, svissrOnes, FormatOk}
 use Rattle.formats.specs.declared.Format.{Format}
 use Rattle.scramble.specs.Step.{StepOk, registerLeft}
 use Rattle.scramble.specs.declared.StepTaken.{StepTaken}
@@ -44,6 +44,7 @@ pub record Unique : Type 0 where
   -- formats, register, SYNC
   pub format-1 : One (λ (r : Format). r ≡ svissr)
   pub format-2 : One (λ (r : Format). r ≡ hirid)
+  pub format-3 : One (λ (r : Format). r ≡ svissrOnes)
   pub format-of : (n : ℕ) → One (FormatOk n)
   pub stepped : (register : ℕ) → One (λ (r : StepTaken). StepOk register (r .answer) × (r .next .bits ≡ registerLeft register))
   pub step : (register : ℕ) → OneWith (Step register)

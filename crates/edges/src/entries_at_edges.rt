@@ -16,7 +16,8 @@ const UNFINISHED: u32 = 0xFF_FFFF;
 // A mark above 24.
 const IMPOSSIBLE: u32 = 0x200_0000;
 
-fn told(name: &[u8], refusal: u8) {
+// A row with the number of a refusal, 0 for none.
+pub fn told(name: &[u8], refusal: u8) {
     text::empty()
         .words(name)
         .words(b": refusal ")
@@ -124,6 +125,7 @@ fn albedos() {
     albedo(b"albedo of 24 segments", 1, UNFINISHED, 1, 0);
     albedo(b"albedo level 64 of 24 segments", 1, UNFINISHED, 1, 64);
     albedo(b"albedo in format 2", 2, ALL, 1, 0);
+    albedo(b"albedo in format 3", 3, ALL, 1, 0);
     albedo(b"albedo with a mark above 24", 1, IMPOSSIBLE, 1, 0);
 }
 
@@ -136,6 +138,7 @@ fn temperatures() {
     temperature(b"temperature IR5", 1, ALL, 5, 0);
     temperature(b"temperature of 24 segments", 1, UNFINISHED, 1, 0);
     temperature(b"temperature in format 2", 2, ALL, 1, 0);
+    temperature(b"temperature in format 3", 3, ALL, 1, 0);
 }
 
 fn revisions() {
@@ -143,6 +146,7 @@ fn revisions() {
     revision(b"revision calibration-1", 2, ALL, 4);
     revision(b"revision calibration-2", 1, ALL, 5);
     revision(b"revision calibration-2 in format 2", 2, ALL, 5);
+    revision(b"revision calibration-2 in format 3", 3, ALL, 5);
     revision(b"revision mapping", 1, ALL, 1);
     revision(b"revision orbit", 1, ALL, 2);
     revision(b"revision block 6", 1, ALL, 6);

@@ -1,5 +1,6 @@
-// Both sides of each edge that document 01 names for the reader, and of those of a finished block's entries, as runs: one line
-// of output for each. The expected lines in `stdout` follow from document 01, and not from a run of this program.
+// Both sides of each edge that document 01 names for the reader, of those of a finished block's entries, and of the start value of
+// the check, as runs: one line of output for each. The expected lines in `stdout` follow from documents 01 and 02, and not from a
+// run of this program.
 //
 // A recording here is noise of one byte, tails where the edge has them, and information bits that are the noise too. With
 // noise of zeros the plain line opens with the scrambling bytes after SYNC, every second one inverted: 00 FD 00 F3. Where
@@ -10,6 +11,7 @@ use reader::Answer;
 use reader_record::State;
 use text::Row;
 
+mod check_from_ones;
 mod entries_at_edges;
 
 // The bytes that a recording here can have, and those of a line.
@@ -373,6 +375,7 @@ fn refusals() {
     asked(b"format 1", 1, s);
     asked(b"format 2", 2, s);
     asked(b"format 3", 3, s);
+    asked(b"format 4", 4, s);
     asked_short(b"buffer 44355", 1, 0, s);
     asked(b"buffer 44356", 1, s);
     asked(b"position 354847", 1, reading(354847, 32767, 0, 7, 0));
@@ -402,12 +405,12 @@ fn refusals() {
     );
     asked(
         b"unknown format and impossible record",
-        3,
+        4,
         reading(0, 32768, 0, 0, 0),
     );
     asked_at(b"setting 6", 1, 6, s);
     asked_at(b"setting 7", 1, 7, s);
-    asked_at(b"unknown format and setting 7", 3, 7, s);
+    asked_at(b"unknown format and setting 7", 4, 7, s);
     asked_at(
         b"setting 7 and impossible record",
         1,
@@ -424,4 +427,5 @@ fn main() {
     nothing();
     refusals();
     entries_at_edges::all();
+    check_from_ones::all();
 }

@@ -1,4 +1,4 @@
-// fields [-2] [-s K] [FILE]: what the documentation sectors of a recording say. USAGE says what its words are and what it
+// fields [-2|-3] [-s K] [FILE]: what the documentation sectors of a recording say. USAGE says what its words are and what it
 // writes.
 //
 // What the numbers are is proved of `document`, `document_stamps`, `segments`, `entries` and `calibration`; of its own
@@ -13,9 +13,10 @@ mod five;
 mod line;
 mod say;
 
-const USAGE: [u8; 1093] = *b"usage: fields [-2] [-s K] [FILE]
+const USAGE: [u8; 1174] = *b"usage: fields [-2|-3] [-s K] [FILE]
 Says what the documentation sectors of a recording hold: of FILE, or of standard input where FILE is - or left out.
   -2     the recording is HiRID, format 2; else it is S-VISSR 2.0, format 1
+  -3     it is S-VISSR 2.0 from a card whose check starts from ones, format 3
   -s K   up to K of the 64 bits of a line's tail may be wrong, K 0 to 6; 0 where it is left out
 It writes for each line, counted from 1
   line N mode M mirror R set A reset B count C position P date D segment S repeat T blocks a b c d e

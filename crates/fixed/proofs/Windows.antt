@@ -9,10 +9,10 @@ use native.Mathlib.Omega.{arith}
 use lib.Dec.{T}
 use lib.ListN.{length, take, drop, replicate}
 use lib.Seq.{drop-drop}
-use Rattle.formats.specs.Formats.{svissr, hirid, formatOf}
+use Rattle.formats.specs.Formats.{svissr, hirid, svissrOnes, formatOf}
 use Rattle.formats.specs.declared.Format.{Format}
 use Rattle.formats.specs.declared.FormatAnswer.the-variants.{Is}
-use Rattle.formats.proofs.Which.{either}
+use Rattle.formats.proofs.Which.{of-each}
 use Rattle.scramble.specs.Sync.{SYNC, tail}
 use Rattle.scramble.specs.Wire.{complemented, scrambled, wireOf}
 use Rattle.wire.specs.Parts.{dummyOf}
@@ -66,7 +66,7 @@ no-dummy : dummyOf 354848 0 ≡ []
 unfolding dummyOf wireOf complemented scrambled
 no-dummy = refl
 
--- ---- both formats
+-- ---- every format
 
 -- what holds of a format's windows, before its first line and before each later one
 pub record Windows (f : Format) : Type 0 where
@@ -85,9 +85,14 @@ windows-2 : Windows hirid
 unfolding firstSearched nextSearched
 windows-2 = record { before-first = λ k h. sync-2 k (omega arith); before-next = λ k h. next-2 k (omega arith) }
 
+-- windows go by the lengths alone, and format 3 has those of format 1
+windows-3 : Windows svissrOnes
+unfolding firstSearched nextSearched
+windows-3 = record { before-first = windows-1 .before-first; before-next = windows-1 .before-next }
+
 -- EACH EARLIER WINDOW DIFFERS IN AT LEAST NINE PLACES
 pub earlier-apart : (n : ℕ) (f : Format) → formatOf n ≡ Is f → Windows f
-earlier-apart = either Windows windows-1 windows-2
+earlier-apart = of-each Windows windows-1 windows-2 windows-3
 
 -- NO EARLIER WINDOW IS THE TAIL
 pub record NotTail (f : Format) : Type 0 where

@@ -6,7 +6,7 @@ use native.Mathlib.Omega.{arith}
 use lib.Dec.{eqb}
 use Rattle.refusals.specs.Refusals.{when, answered, kept}
 use Rattle.refusals.proofs.Says.{Kind, says-of, says-is}
-use Rattle.formats.specs.Formats.{svissr, hirid, formatOf, unknown, formatRefusal, noFormat, namedBy, formatNumber, formatIn, FormatOk}
+use Rattle.formats.specs.Formats.{svissr, hirid, svissrOnes, formatOf, unknown, formatRefusal, noFormat, namedBy, formatNumber, formatIn, FormatOk}
 use Rattle.formats.specs.declared.Format.{Format}
 use Rattle.formats.specs.declared.FormatAnswer.{FormatAnswer}
 use Rattle.formats.specs.declared.FormatAnswer.the-variants.{Is, Refused}
@@ -29,22 +29,26 @@ module _ (n : ℕ) where
   -- the answer by number and format
   formed : formatOf n ≡ answered Refused (formatRefusal n) (Is (namedBy n))
   unfolding formatRefusal unknown namedBy when answered
-  formed = go (eqb n 1) (eqb n 2)
+  formed = go (eqb n 1) (eqb n 2) (eqb n 3)
     where
-      go : (a b : Bool) → cond a (Is svissr) (cond b (Is hirid) (Refused 1)) ≡ answered Refused (when (not a && not b) 1) (Is (cond a svissr (cond b hirid noFormat)))
-      go true b = refl
-      go false true = refl
-      go false false = refl
+      go : (a b c : Bool) → cond a (Is svissr) (cond b (Is hirid) (cond c (Is svissrOnes) (Refused 1)))
+          ≡ answered Refused (when (not a && (not b && not c)) 1) (Is (cond a svissr (cond b hirid (cond c svissrOnes noFormat))))
+      go true b c = refl
+      go false true c = refl
+      go false false true = refl
+      go false false false = refl
 
   -- a number that is refused names no format
   none-named : namedBy n ≡ kept (formatRefusal n) noFormat (namedBy n)
   unfolding formatRefusal unknown namedBy when kept
-  none-named = go (eqb n 1) (eqb n 2)
+  none-named = go (eqb n 1) (eqb n 2) (eqb n 3)
     where
-      go : (a b : Bool) → cond a svissr (cond b hirid noFormat) ≡ kept (when (not a && not b) 1) noFormat (cond a svissr (cond b hirid noFormat))
-      go true b = refl
-      go false true = refl
-      go false false = refl
+      go : (a b c : Bool) → cond a svissr (cond b hirid (cond c svissrOnes noFormat))
+          ≡ kept (when (not a && (not b && not c)) 1) noFormat (cond a svissr (cond b hirid (cond c svissrOnes noFormat)))
+      go true b c = refl
+      go false true c = refl
+      go false false true = refl
+      go false false false = refl
 
   pub format-told : (r : FormatAnswer) → r ≡ formatOf n → FormatOk n r
   format-told r e = let h = says-of named r (formatRefusal n) (namedBy n) (e ∙ formed) in (h .0, h .1 ∙ sym none-named, h .2)

@@ -1,5 +1,5 @@
--- The two formats as document 01 has them, with the lengths of one line on the wire and the start value of the check, and the
--- format of a number. Assumes nothing.
+-- The formats as the papers have them, with the lengths of one line on the wire and the start value of the check, and the format of
+-- a number. Assumes nothing.
 use Prim.Native.Nat.{ℕ, _+_, _*_}
 use mathlib.Core.Bool.{Bool, cond, not, _&&_}
 use mathlib.Core.Path.{_≡_, refl}
@@ -24,15 +24,19 @@ svissr = record { number = 1; sync = 10000; information = 354848; dummy = 0; byt
 abbrev pub hirid : Format
 hirid = record { number = 2; sync = 20000; information = 354848; dummy = 21152; bytes = 49500; «check_start» = 0 }
 
+-- format 3: format 1 with ones, from a card that presets its check register
+abbrev pub svissrOnes : Format
+svissrOnes = record { number = 3; sync = svissr .sync; information = svissr .information; dummy = svissr .dummy; bytes = svissr .bytes; «check_start» = 0xffff }
+
 -- the format of a number; 1 refuses every other
 abbrev pub formatOf : ℕ → FormatAnswer
-formatOf n = cond (eqb n 1) (Is svissr) (cond (eqb n 2) (Is hirid) (Refused 1))
+formatOf n = cond (eqb n 1) (Is svissr) (cond (eqb n 2) (Is hirid) (cond (eqb n 3) (Is svissrOnes) (Refused 1)))
 
 -- the number names none
 unfoldable pub unknown : ℕ → Bool
-unknown n = not (eqb n 1) && not (eqb n 2)
+unknown n = not (eqb n 1) && (not (eqb n 2) && not (eqb n 3))
 
--- 1: the format is neither 1 nor 2
+-- 1: the format is none of 1, 2, 3
 unfoldable pub formatRefusal : ℕ → ℕ
 formatRefusal n = when (unknown n) 1
 
@@ -41,7 +45,7 @@ abbrev pub noFormat : Format
 noFormat = record { number = 0; sync = 0; information = 0; dummy = 0; bytes = 0; «check_start» = 0 }
 
 unfoldable pub namedBy : ℕ → Format
-namedBy n = cond (eqb n 1) svissr (cond (eqb n 2) hirid noFormat)
+namedBy n = cond (eqb n 1) svissr (cond (eqb n 2) hirid (cond (eqb n 3) svissrOnes noFormat))
 
 -- the paper's number and values for each answer to a format number
 abbrev pub formatNumber : FormatAnswer → ℕ
@@ -69,6 +73,9 @@ svissr-fills = refl
 
 pub hirid-fills : FillsBytes hirid
 hirid-fills = refl
+
+pub ones-fills : FillsBytes svissrOnes
+ones-fills = refl
 
 pub line-fills : informationBits ≡ lineBytes * 8
 line-fills = refl

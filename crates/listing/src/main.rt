@@ -1,13 +1,14 @@
-// listing [-2] [-s K] [FILE]: the lines of a recording. USAGE says what its words are and what it writes.
+// listing [-2|-3] [-s K] [FILE]: the lines of a recording. USAGE says what its words are and what it writes.
 //
 // It keeps one line buffer and one piece of the recording, however long that is. What the lines and the sectors are is proved
 // of `reader` and `sectors`; of its own functions it is proved that they are safe and end.
 ghost use Prim.Native.Nat.{_≤_};
 use sectors::check::Counted;
 
-const USAGE: [u8; 521] = *b"usage: listing [-2] [-s K] [FILE]
+const USAGE: [u8; 602] = *b"usage: listing [-2|-3] [-s K] [FILE]
 Lists the lines of a recording: of FILE, or of standard input where FILE is - or left out.
   -2     the recording is HiRID, format 2; else it is S-VISSR 2.0, format 1
+  -3     it is S-VISSR 2.0 from a card whose check starts from ones, format 3
   -s K   up to K of the 64 bits of a line's tail may be wrong, K 0 to 6; 0 where it is left out
 It writes for each line
   line N good G filler F

@@ -9,3 +9,4 @@ pub mod Zeros
 pub mod UniqueAcross
 pub mod Assembled
 pub mod Grid
+pub mod Cards

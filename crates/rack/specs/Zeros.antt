@@ -63,7 +63,7 @@ use Rattle.rack_entries.specs.Entry.{levelGiven, levelF64Given, gridGiven, orbi
 
 -- a refused answer has the number alone
 abbrev pub FormatAlone : FormatAnswer → Type 0
-FormatAlone a = Refuses (a .refused) → a ≡ record { refused = a .refused; number = 0; «sync_bits» = 0; «information_bits» = 0; «dummy_bits» = 0; bytes = 0 }
+FormatAlone a = Refuses (a .refused) → a ≡ record { refused = a .refused; number = 0; «check_start» = 0; «sync_bits» = 0; «information_bits» = 0; «dummy_bits» = 0; bytes = 0 }
 
 -- `put_sync`, `write_line`, `filler`
 abbrev pub CountAlone : CountAnswer → Type 0

@@ -18,11 +18,13 @@ use scramble::Register;
 use scramble::StepBit;
 use sync::SyncPut;
 
-// A format: its number, the bits of the three parts of one line on the wire, and the bytes of them all.
+// A format: its number, the start value of the check of its sectors, the bits of the three parts of one line on the wire, and the
+// bytes of them all.
 #[repr(C)]
 pub struct FormatAnswer {
     pub refused: u8,
     pub number: u8,
+    pub check_start: u16,
     pub sync_bits: usize,
     pub information_bits: usize,
     pub dummy_bits: usize,
@@ -42,7 +44,7 @@ pub struct StepAnswer {
 pub extern "C" fn hansobrik_version() -> u32
     ensures { λ r. ⌜ r ≡ version ⌝ }
 {
-    500
+    600
 }
 
 // Inner. A format as it crosses the boundary.
@@ -53,6 +55,7 @@ fn format_given(a: formats::FormatAnswer) -> FormatAnswer
         formats::FormatAnswer::Is(f) => FormatAnswer {
             refused: 0,
             number: f.number,
+            check_start: f.check_start,
             sync_bits: f.sync,
             information_bits: f.information,
             dummy_bits: f.dummy,
@@ -61,6 +64,7 @@ fn format_given(a: formats::FormatAnswer) -> FormatAnswer
         formats::FormatAnswer::Refused(n) => FormatAnswer {
             refused: n,
             number: 0,
+            check_start: 0,
             sync_bits: 0,
             information_bits: 0,
             dummy_bits: 0,
@@ -69,7 +73,7 @@ fn format_given(a: formats::FormatAnswer) -> FormatAnswer
     }
 }
 
-// The lengths of a format; refused with 1.
+// The lengths of a format, and the start value of its check; refused with 1.
 #[no_mangle]
 pub extern "C" fn hansobrik_format(format: u8) -> FormatAnswer
     ensures { λ r. ⌜ r ≡ formatGiven (formatOf format) ⌝ }

@@ -9,7 +9,7 @@ ghost use Rattle.refusals.specs.Refusals.{first, shortOf, outsideOf};
 // The numbers, in the order in which they are tested: the first that applies is given. A refused call returns its number, takes
 // nothing, and leaves state and buffers as at entry.
 
-// The format is neither 1 nor 2.
+// The format is none of 1, 2, 3.
 pub const FORMAT: u8 = 1;
 
 // The reader's setting is above 6.

@@ -4,3 +4,5 @@ pub mod Others
 pub mod Points
 pub mod Carried
 pub mod Rounds
+pub mod Cards
+pub mod Ones

@@ -7,7 +7,7 @@ use refusals::first;
 use refusals::outside;
 use refusals::short;
 
-// Inner. 1 where the format is neither 1 nor 2, then 4 where the number is not one from lo to hi; else 0.
+// Inner. 1 where the format is none of 1, 2, 3, then 4 where the number is not one from lo to hi; else 0.
 pub fn asked(format: u8, lo: u8, hi: u8, n: u8) -> u8
     ensures { λ r. ⌜ r ≡ askedOf format lo hi n ⌝ }
 {

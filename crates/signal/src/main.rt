@@ -1,4 +1,4 @@
-// signal [-2] [N [FORMAT [W [T]]]]: a training recording on standard output, for a class that plays when the card is away.
+// signal [-2|-3] [N [FORMAT [W [T]]]]: a training recording on standard output, for a class that plays when the card is away.
 // USAGE says what its words are; `pattern` says what stands in a line, `wrong` which bits of its tail come wrong.
 //
 // The program only makes bytes and hands them on: what a sector and a line on the wire are is proved of `sector_writer` and
@@ -12,12 +12,12 @@ use writer::Written;
 mod pattern;
 mod wrong;
 
-const USAGE: [u8; 479] = *b"usage: signal [-2] [N [FORMAT [W [T]]]]
+const USAGE: [u8; 535] = *b"usage: signal [-2|-3] [N [FORMAT [W [T]]]]
 Writes a training recording of N lines, 0 to 1000000, to standard output; 10 where N is left out.
-  FORMAT   1 is S-VISSR 2.0, as where it is left out, 2 is HiRID
+  FORMAT   1 is S-VISSR 2.0, as where it is left out, 2 is HiRID, 3 is 1 with a check that starts from ones
   W        so many bits, 0 to 64, are wrong in each line's tail; 0 where it is left out
   T        new tables come with line T, 1 to 1000000; with 0, as where it is left out, none come
-  -2       the same as FORMAT 2
+  -2, -3   the same as FORMAT 2, FORMAT 3
 Standard error says `total N` where all of it was written.
 ";
 
@@ -63,7 +63,7 @@ fn play(format: u8, n: u64, w: u64, t: u64)
 // The format that the words ask for; 0 where they do not agree.
 fn format_of(asked: Asked) -> u64 {
     let format = command::number_at(asked.second, asked.format as u64);
-    if format == 1 && asked.format == 2 {
+    if asked.format != 1 && format != asked.format as u64 {
         return 0;
     }
     format
@@ -121,6 +121,7 @@ fn main() {
     match format_of(asked) {
         1 => damaged(1, lines, asked),
         2 => damaged(2, lines, asked),
-        _ => command::refuse_word(b"not the format, 1 or 2: ", asked.second, &USAGE),
+        3 => damaged(3, lines, asked),
+        _ => command::refuse_word(b"not the format, 1 to 3: ", asked.second, &USAGE),
     }
 }

@@ -10,7 +10,7 @@
 //
 // Date: line k is at t = 60 k hundredths of a second from 2005-01-01 00:00:00.00; a month has 28 days here.
 //
-// Blocks b = 1 mapping, 2 orbit, 3 MANAM, 4 calibration-1, 5 calibration-2 (format 1 only): byte q, from 1, is
+// Blocks b = 1 mapping, 2 orbit, 3 MANAM, 4 calibration-1, 5 calibration-2 (not in format 2): byte q, from 1, is
 // ((q q + 97 b q) / 5) % 256 of 1 and 2, and ((q q + 97 b q) / 5 + 85 r) % 256 of 3, 4 and 5: new tables differ at every byte.
 //
 // Pixel j, from 0, of sector s, w bits wide: (j (2 s + k + 1) + j / 3 + 5 s + k) % 2^w.
@@ -107,7 +107,7 @@ fn blocks(format: u8, k: u64, r: usize, p: usize) -> u8
         return segment(4, p, 835, 256, k, r);
     }
     if p < 2115 {
-        if format == 1 {
+        if format != 2 {
             return segment(5, p, 1091, 1024, k, r);
         }
     }

@@ -1,4 +1,4 @@
--- Where SYNC begins: the registers before its first bit in the two formats, by computation. Assumes nothing.
+-- Where SYNC begins: the registers before its first bit in the formats, by computation. Assumes nothing.
 use mathlib.Core.Path.{_≡_, refl, sym, ap}
 use mathlib.Core.Bool.{Bool, true, false, cond}
 use Prim.Native.Nat.{ℕ, _≤_}
@@ -6,7 +6,7 @@ use lib.Dec.{eqb, lit≤}
 use Rattle.formats.specs.Formats.{svissr, hirid, formatOf}
 use Rattle.formats.specs.declared.Format.{Format}
 use Rattle.formats.specs.declared.FormatAnswer.the-variants.{Is}
-use Rattle.formats.proofs.Which.{either}
+use Rattle.formats.proofs.Which.{of-each}
 use Rattle.scramble.specs.Register.{scramblingBits}
 use Rattle.scramble.specs.Sync.{earlierRegister, registerBefore, fifteenOnes, SYNC}
 use Rattle.sync.specs.Put.{beforeSync}
@@ -41,4 +41,4 @@ unfolding SYNC beforeSync
 from-2 = ap (scramblingBits 20000) (sym before-2)
 
 pub sync-from : (n : ℕ) (f : Format) → formatOf n ≡ Is f → scramblingBits (f .sync) (beforeSync (f .sync)) ≡ SYNC (f .sync)
-sync-from = either SyncFrom from-1 from-2
+sync-from = of-each SyncFrom from-1 from-2 from-1

@@ -6,7 +6,7 @@ use lib.Dec.{eqb, ltb}
 use lib.ListN.{length, getD}
 use Rattle.bits.specs.Bits.{same}
 use Rattle.words.specs.declared.Word.{Word}
-use Rattle.words.specs.declared.Word.the-variants.{Hirid, Help, Setting, Number, Name, Unknown}
+use Rattle.words.specs.declared.Word.the-variants.{Format, Help, Setting, Number, Name, Unknown}
 use Rattle.words.specs.declared.Takes.{Takes}
 use Rattle.words.specs.declared.Asked.{Asked}
 
@@ -14,14 +14,15 @@ use Rattle.words.specs.declared.Asked.{Asked}
 abbrev pub isOption : List ℕ → Bool
 isOption text = ltb 1 (length text) && eqb (getD text 0 0) 45
 
--- the number that `-s` awaits, whatever stands there; `-2`, `--help`, `-s`, any other with a minus sign in front, or a name
+-- the number that `-s` awaits, whatever stands there; `-2`, `-3`, `--help`, `-s`, any other with a minus sign in front, or a name
 abbrev pub wordOf : Bool → List ℕ → Word
 wordOf awaited text =
     cond awaited Number
-    (cond (same text (45 ∷ 50 ∷ [])) Hirid
+    (cond (same text (45 ∷ 50 ∷ [])) (Format 2)
+    (cond (same text (45 ∷ 51 ∷ [])) (Format 3)
     (cond (same text (45 ∷ 45 ∷ 104 ∷ 101 ∷ 108 ∷ 112 ∷ [])) Help
     (cond (same text (45 ∷ 115 ∷ [])) Setting
-    (cond (isOption text) Unknown Name))))
+    (cond (isOption text) Unknown Name)))))
 
 -- one digit, 0 to 6; 7 where it is something else
 abbrev pub settingOf : List ℕ → ℕ
@@ -103,14 +104,20 @@ named a place most =
     (unserved a place)))))
     (unserved a place)
 
+-- a format at a place: it is asked for where none was, or the same one; another one is not served
+abbrev pub formatted : Asked → ℕ → ℕ → Asked
+formatted a place n =
+    cond (eqb (a .format) 1) (withOptions a n (a .help) (a .awaits) (a .setting))
+    (cond (eqb (a .format) n) (withOptions a n (a .help) (a .awaits) (a .setting)) (unserved a place))
+
 -- `-s` at a place, which awaits its number: served once, by a program that takes it
 abbrev pub awaiting : Asked → ℕ → Bool → Asked
 awaiting a place taken =
     cond (taken && eqb (a .setting) 0) (withOptions a (a .format) (a .help) true place) (unserved a place)
 
--- WITH ONE WORD MORE: where it stands matters to names and to the number behind `-s` alone
+-- WITH ONE WORD MORE: where it stands matters to names, to the number behind `-s` and to words that are not served
 abbrev pub heard : Asked → ℕ → Word → Takes → Asked
-heard a place Hirid t = withOptions a 2 (a .help) (a .awaits) (a .setting)
+heard a place (Format n) t = formatted a place n
 heard a place Help t = withOptions a (a .format) true (a .awaits) (a .setting)
 heard a place Setting t = awaiting a place (t .setting)
 heard a place Number t = withOptions a (a .format) (a .help) false place

@@ -5,11 +5,12 @@
 ghost use mathlib.Core.Path.{_≡_};
 ghost use Prim.Native.Nat.{_≤_};
 ghost use Rattle.bits.specs.Bits.{same};
-ghost use Rattle.words.specs.Words.{isOption, wordOf, settingOf, nothingAsked, withOptions, withNames, awaiting, unserved as Words·unserved, named as Words·named, heard as Words·heard, closed as Words·closed};
+ghost use Rattle.words.specs.Words.{isOption, wordOf, settingOf, nothingAsked, withOptions, withNames, awaiting, unserved as Words·unserved, named as Words·named, formatted as Words·formatted, heard as Words·heard, closed as Words·closed};
 
-// A word: -2, --help, -s, the number behind -s, a name (that of a file, or a number), or another that opens with a minus sign.
+// A word: -2 or -3, which ask for a format, --help, -s, the number behind -s, a name (that of a file, or a number), or another that
+// opens with a minus sign.
 pub enum Word {
-    Hirid,
+    Format(u8),
     Help,
     Setting,
     Number,
@@ -17,7 +18,7 @@ pub enum Word {
     Unknown,
 }
 
-// Which words a program takes beside -2 and --help: at most so many names, and whether -s.
+// Which words a program takes beside -2, -3 and --help: at most so many names, and whether -s.
 pub struct Takes {
     pub names: usize,
     pub setting: bool,
@@ -86,7 +87,10 @@ pub fn word_of(awaited: bool, text: &[u8]) -> Word
         return Word::Number;
     }
     if is(text, b"-2") {
-        return Word::Hirid;
+        return Word::Format(2);
+    }
+    if is(text, b"-3") {
+        return Word::Format(3);
     }
     if is(text, b"--help") {
         return Word::Help;
@@ -204,6 +208,19 @@ fn named(a: Asked, place: usize, most: usize) -> Asked
     unserved(a, place)
 }
 
+// A format at a place. Where the words before it asked for another one, it is not served.
+fn formatted(a: Asked, place: usize, n: u8) -> Asked
+    ensures { λ r. ⌜ r ≡ Words·formatted a place n ⌝ }
+{
+    if a.format == 1 {
+        return with_options(a, n, a.help, a.awaits, a.setting);
+    }
+    if a.format == n {
+        return with_options(a, n, a.help, a.awaits, a.setting);
+    }
+    unserved(a, place)
+}
+
 // -s at a place, which awaits its number. It is served once, by a program that takes it.
 fn awaited(a: Asked, place: usize, taken: bool) -> Asked
     ensures { λ r. ⌜ r ≡ awaiting a place taken ⌝ }
@@ -222,7 +239,7 @@ pub fn heard(a: Asked, place: usize, w: Word, t: Takes) -> Asked
     ensures { λ r. ⌜ r ≡ Words·heard a place w t ⌝ }
 {
     match w {
-        Word::Hirid => with_options(a, 2, a.help, a.awaits, a.setting),
+        Word::Format(n) => formatted(a, place, n),
         Word::Help => with_options(a, a.format, true, a.awaits, a.setting),
         Word::Setting => awaited(a, place, t.setting),
         Word::Number => with_options(a, a.format, a.help, false, place),

@@ -49,7 +49,7 @@ unfoldable pub writeLineLeft : ℕ → List ℕ → List ℕ → List ℕ
 writeLineLeft format line out =
     kept (writeLineRefusal format (length line) (length out)) out (wireBytes (namedBy format) line ++ drop (namedBy format .bytes) out)
 
--- what the inner function asks: one of the two formats, a whole line and room for it
+-- what the inner function asks: one of the formats, a whole line and room for it
 pub record CanPut (f : Format) (line out : List ℕ) : Type 0 where
   pub number : ℕ
   pub known : formatOf number ≡ Is f

@@ -27,6 +27,9 @@
 //! program, "ILON = 80+(IL2-1)*5", and table A.3, where 80 east is the first
 //! longitude and 160 west the last.
 //!
+//! Document 02, T-11: "format 3 is format 1 with ones", "calibration-2 is served
+//! in format 3".
+//!
 //! An assembly is two things the caller keeps: the record [`Assembly`] and the
 //! block buffer. It starts with a record of zeros and any buffer. Blocks are
 //! numbered 1 to 5 as listed.
@@ -197,9 +200,10 @@ pub struct GridPoint {
     pub longitude: i32,
 }
 
-/// The first longitude, degrees east: "45 for format 1 and 80 for format 2".
+/// The first longitude, degrees east: "45 for format 1 and 80 for format 2", and
+/// "format 3 is format 1 with ones".
 fn first_longitude(format_number: usize) -> i32 {
-    [45, 80][format_number - 1]
+    [45, 80, 45][format_number - 1]
 }
 
 /// "Longitudes above 180 are given as west": 181 east is 179 west.

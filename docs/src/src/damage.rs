@@ -51,7 +51,7 @@ impl Random {
 }
 
 fn wire(format_number: usize, k: u64) -> Vec<u8> {
-    let line = pattern::line(format_number, k, 0).expect("the pattern serves formats 1 and 2");
+    let line = pattern::line(format_number, k, 0).expect("the pattern serves formats 1, 2 and 3");
     pattern::on_the_wire(format_number, &line).expect("a whole line")
 }
 
@@ -82,14 +82,14 @@ pub fn shifted(recording: &[u8], by: usize, random: &mut Random) -> Vec<u8> {
 /// Cut off somewhere in its last line.
 pub fn truncated(format_number: usize, lines: u64, random: &mut Random) -> Vec<u8> {
     let mut recording = good(format_number, lines);
-    let lost = 1 + random.under(format(format_number).expect("1 or 2").wire_bytes);
+    let lost = 1 + random.under(format(format_number).expect("1, 2 or 3").wire_bytes);
     recording.truncate(recording.len() - lost);
     recording
 }
 
 /// Begun somewhere in its first line.
 pub fn begun_late(format_number: usize, lines: u64, random: &mut Random) -> Vec<u8> {
-    let lost = 1 + random.under(format(format_number).expect("1 or 2").wire_bytes);
+    let lost = 1 + random.under(format(format_number).expect("1, 2 or 3").wire_bytes);
     good(format_number, lines).split_off(lost)
 }
 
@@ -124,7 +124,7 @@ pub fn tail_in_noise(format_number: usize, random: &mut Random) -> Vec<u8> {
 /// information bits. "Nothing else is sought inside a line."
 pub fn tail_in_line(format_number: usize, random: &mut Random) -> Vec<u8> {
     let mut recording = good(format_number, 3);
-    let sync_bits = format(format_number).expect("1 or 2").sync_bits;
+    let sync_bits = format(format_number).expect("1, 2 or 3").sync_bits;
     let place = sync_bits + random.under(INFORMATION_BITS - tail().len());
     for (i, &bit) in tail().iter().enumerate() {
         bits::set_bit(&mut recording, place + i, bit);
@@ -135,7 +135,7 @@ pub fn tail_in_line(format_number: usize, random: &mut Random) -> Vec<u8> {
 /// The same, but begun behind the first line's SYNC: now the tail inside the
 /// line is the first one, and what follows it is a line that was never sent.
 pub fn tail_in_line_begun_late(format_number: usize, random: &mut Random) -> Vec<u8> {
-    let sync_bytes = format(format_number).expect("1 or 2").sync_bits / 8;
+    let sync_bytes = format(format_number).expect("1, 2 or 3").sync_bits / 8;
     tail_in_line(format_number, random).split_off(sync_bytes)
 }
 

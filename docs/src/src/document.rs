@@ -3,6 +3,7 @@
 //! orbit and attitude 297-424, MANAM 425-834, calibration-1 835-1090; in
 //! format 1 calibration-2 1091-2114. 000's status block words are two less.
 //! Calls for fields, segments and joined pixels test their sectors' checks."
+//! Document 02, T-11: "calibration-2 is served in format 3".
 //!
 //! Every call tests 1, then 10 if it is given a number form, then 2, then the
 //! sector DOC for 5 and 6, then 7. "Line numbers and date are separate calls;

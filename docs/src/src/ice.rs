@@ -35,7 +35,7 @@ impl Received {
     /// Nothing is wrong yet.
     pub fn new(format_number: usize, lines: usize) -> Received {
         Received {
-            format: format(format_number).expect("1 or 2"),
+            format: format(format_number).expect("1, 2 or 3"),
             lines,
             recording: good(format_number, lines as u64),
         }

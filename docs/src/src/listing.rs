@@ -8,7 +8,7 @@
 //!
 //! `good` is how many of the twelve sectors are accepted, `filler` how many
 //! filler bits of all twelve are set. Lines are counted from 1. A recording
-//! without a line gives `total 0`.
+//! without a line gives `total 0`. The other formats are listed likewise.
 
 use crate::reader::Recording;
 use crate::refusal::Refusal;

@@ -29,8 +29,8 @@
 //! | 193, 195 | 0 |
 //! | 194 | (k div 8) mod 25, the segment |
 //! | 196 | k mod 8, the repeat |
-//! | 197-1090, in format 1 197-2114 | the segment of each block, see below |
-//! | 1091-2293, in format 1 2115-2293 | 0 |
+//! | 197-2114, in format 2 197-1090 | the segment of each block, see below |
+//! | 2115-2293, in format 2 1091-2293 | 0 |
 //! | any other | (37p + 11k) mod 256 |
 //!
 //! **Date.** A line is 60 hundredths of a second (600 ms) after the one
@@ -132,7 +132,7 @@ pub fn doc(format_number: usize, k: u64, tables: u64) -> Vec<u8> {
     place(67, &[[0xFF, 0xF0, 0x00, 0x0F, 0xA5][(k % 5) as usize]]);
     place(193, &[0, segment as u8, 0, (k % 8) as u8]);
     for b in 1..=5 {
-        if format_number == 1 || b != CALIBRATION_2 {
+        if format_number != 2 || b != CALIBRATION_2 {
             place(BLOCKS[b - 1].first, &segment_of(b, segment, changed));
         }
     }

@@ -8,7 +8,7 @@
 /// A refusal number of the table.
 pub type Refusal = u8;
 
-/// "format is neither 1 nor 2"
+/// Document 02, T-11: "Refusal 1 is now for numbers other than 1, 2, 3"
 pub const FORMAT: Refusal = 1;
 
 /// Document 02, T-01: "13 for a setting above 6, tested after 1"

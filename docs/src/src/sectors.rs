@@ -7,6 +7,9 @@
 //! is 0 and the ID is its own. Set filler bits are counted, sector by sector,
 //! and refuse nothing."
 //!
+//! Document 02, T-11: "All that read or write a sector take it from that record.
+//! In format 3 the first 16 bits are inverted before the remainder is taken".
+//!
 //! "Pixels lie first bit highest, without gaps. IR1-3 at ten bits: four times
 //! the upper pixel plus the lower one, both sectors accepted. The four visible
 //! lines go into one strip of 36,656 bytes, each into its own part; the part
@@ -133,9 +136,13 @@ fn pixel_sector(number: usize) -> Result<&'static Sector, Refusal> {
 
 /// The remainder by x^16+x^12+x^5+1, as long division on paper: wherever the
 /// highest bit left is set, the divisor is taken away there. Its terms lie 0,
-/// 4, 11 and 16 places behind its first one. The last 16 bits are left.
-pub fn remainder(dividend: &[u8]) -> u16 {
+/// 4, 11 and 16 places behind its first one. The last 16 bits are left. Before
+/// that the first 16 bits are inverted where the start value has ones.
+pub fn remainder(start: u16, dividend: &[u8]) -> u16 {
     let mut left = dividend.to_vec();
+    for (bit, preset) in left.iter_mut().zip(bits::of_number(start.into(), 16)) {
+        *bit ^= preset;
+    }
     let last = left.len().saturating_sub(CHECK_BITS);
     for place in 0..last {
         if left[place] == 1 {
@@ -149,16 +156,16 @@ pub fn remainder(dividend: &[u8]) -> u16 {
 
 /// The check word that makes the remainder of ID, data and check bits 0: the
 /// remainder of ID and data with 16 zeros behind them.
-pub fn check_word(id_and_data: &[u8]) -> u16 {
+pub fn check_word(start: u16, id_and_data: &[u8]) -> u16 {
     let mut dividend = id_and_data.to_vec();
     dividend.extend([0; CHECK_BITS]);
-    remainder(&dividend)
+    remainder(start, &dividend)
 }
 
 /// 0 for an accepted sector, else 5 or 6.
-fn judge(line: &[u8], sector: &Sector) -> Refusal {
+fn judge(start: u16, line: &[u8], sector: &Sector) -> Refusal {
     let covered = bits::part(line, sector.start, sector.covered_bits());
-    if remainder(&covered) != 0 {
+    if remainder(start, &covered) != 0 {
         refusal::REMAINDER
     } else if !covered.starts_with(&sector.id()) {
         refusal::ID
@@ -168,8 +175,8 @@ fn judge(line: &[u8], sector: &Sector) -> Refusal {
 }
 
 /// Refuses a sector that is not accepted.
-fn test(line: &[u8], sector: &Sector) -> Result<(), Refusal> {
-    match judge(line, sector) {
+fn test(start: u16, line: &[u8], sector: &Sector) -> Result<(), Refusal> {
+    match judge(start, line, sector) {
         0 => Ok(()),
         refusal => Err(refusal),
     }
@@ -185,18 +192,18 @@ fn values(line: &[u8], sector: &Sector) -> Vec<u16> {
 
 /// Whether a sector is accepted. Refusals 1, 4, 2, 5, 6.
 pub fn accepted(format_number: usize, line: &[u8], number: usize) -> Result<(), Refusal> {
-    format(format_number)?;
+    let start = format(format_number)?.check_start;
     let sector = sector(number)?;
     refuse_if(line.len() < LINE_BYTES, refusal::SHORT_INPUT)?;
-    test(line, sector)
+    test(start, line, sector)
 }
 
 /// What [`accepted`] says of each of the twelve sectors: 0, or 5 or 6. Refusals
 /// 1, 2.
 pub fn answers(format_number: usize, line: &[u8]) -> Result<[Refusal; 12], Refusal> {
-    format(format_number)?;
+    let start = format(format_number)?.check_start;
     refuse_if(line.len() < LINE_BYTES, refusal::SHORT_INPUT)?;
-    Ok(std::array::from_fn(|i| judge(line, &SECTORS[i])))
+    Ok(std::array::from_fn(|i| judge(start, line, &SECTORS[i])))
 }
 
 /// How many filler bits of a sector are set. Refusals 1, 4, 2.
@@ -219,11 +226,11 @@ pub fn data(
     number: usize,
     out: &mut [u8],
 ) -> Result<usize, Refusal> {
-    format(format_number)?;
+    let start = format(format_number)?.check_start;
     let sector = sector(number)?;
     refuse_if(line.len() < LINE_BYTES, refusal::SHORT_INPUT)?;
     refuse_if(out.len() < sector.data_bytes(), refusal::SHORT_OUTPUT)?;
-    test(line, sector)?;
+    test(start, line, sector)?;
 
     let data = bits::part(line, sector.data_start(), sector.data_bits());
     out[..sector.data_bytes()].copy_from_slice(&bits::to_bytes(&data));
@@ -238,11 +245,11 @@ pub fn pixels(
     number: usize,
     out: &mut [u16],
 ) -> Result<usize, Refusal> {
-    format(format_number)?;
+    let start = format(format_number)?.check_start;
     let sector = pixel_sector(number)?;
     refuse_if(line.len() < LINE_BYTES, refusal::SHORT_INPUT)?;
     refuse_if(out.len() < sector.count, refusal::SHORT_OUTPUT)?;
-    test(line, sector)?;
+    test(start, line, sector)?;
 
     out[..sector.count].copy_from_slice(&values(line, sector));
     Ok(sector.count)
@@ -262,14 +269,14 @@ pub fn joined(
     channel: usize,
     out: &mut [u16],
 ) -> Result<usize, Refusal> {
-    format(format_number)?;
+    let start = format(format_number)?.check_start;
     refuse_if(!(1..=3).contains(&channel), refusal::NUMBER)?;
     refuse_if(line.len() < LINE_BYTES, refusal::SHORT_INPUT)?;
     refuse_if(out.len() < IR_PIXELS, refusal::SHORT_OUTPUT)?;
     let upper = sector(channel + 1)?;
     let lower = sector(channel + 8)?;
-    test(line, upper)?;
-    test(line, lower)?;
+    test(start, line, upper)?;
+    test(start, line, lower)?;
 
     let uppers = values(line, upper);
     let lowers = values(line, lower);
@@ -286,14 +293,14 @@ pub fn visible(
     line: &[u8],
     strip: &mut [u8],
 ) -> Result<[Refusal; 4], Refusal> {
-    format(format_number)?;
+    let start = format(format_number)?.check_start;
     refuse_if(line.len() < LINE_BYTES, refusal::SHORT_INPUT)?;
     refuse_if(strip.len() < STRIP_BYTES, refusal::SHORT_OUTPUT)?;
 
     let mut answers = [0; 4];
     for v in 0..4 {
         let sector = sector(5 + v)?;
-        answers[v] = judge(line, sector);
+        answers[v] = judge(start, line, sector);
         if answers[v] == 0 {
             for (pixel, value) in values(line, sector).iter().enumerate() {
                 strip[v * VIS_PIXELS + pixel] = *value as u8;
@@ -305,10 +312,10 @@ pub fn visible(
 
 /// Writes a sector: "ID, check word, zero filler; the other sectors keep their
 /// bits".
-fn put(line: &mut [u8], sector: &Sector, data: &[u8]) {
+fn put(start: u16, line: &mut [u8], sector: &Sector, data: &[u8]) {
     let mut whole = sector.id();
     whole.extend(data);
-    let word = check_word(&whole);
+    let word = check_word(start, &whole);
     whole.extend(bits::of_number(u64::from(word), CHECK_BITS));
     whole.extend([0; FILLER_BITS]);
 
@@ -325,12 +332,17 @@ pub fn put_data(
     number: usize,
     data: &[u8],
 ) -> Result<(), Refusal> {
-    format(format_number)?;
+    let start = format(format_number)?.check_start;
     let sector = sector(number)?;
     refuse_if(line.len() < LINE_BYTES, refusal::SHORT_INPUT)?;
     refuse_if(data.len() < sector.data_bytes(), refusal::SHORT_INPUT)?;
 
-    put(line, sector, &bits::part(data, 0, sector.data_bits()));
+    put(
+        start,
+        line,
+        sector,
+        &bits::part(data, 0, sector.data_bits()),
+    );
     Ok(())
 }
 
@@ -341,7 +353,7 @@ pub fn put_pixels(
     number: usize,
     pixels: &[u16],
 ) -> Result<(), Refusal> {
-    format(format_number)?;
+    let start = format(format_number)?.check_start;
     let sector = pixel_sector(number)?;
     // "a pixel over its width among those the sector takes": pixels past the
     // sector's count are not looked at. 10 stands above 2 in the table, so a
@@ -358,6 +370,6 @@ pub fn put_pixels(
         .iter()
         .flat_map(|&pixel| bits::of_number(u64::from(pixel), sector.width))
         .collect();
-    put(line, sector, &data);
+    put(start, line, sector, &data);
     Ok(())
 }

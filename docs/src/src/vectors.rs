@@ -3,7 +3,8 @@
 
 use crate::bits;
 use crate::blocks::ir_place;
-use crate::format::{Format, HIRID, INFORMATION_BITS, LINE_BYTES, S_VISSR};
+use crate::document::LAST_PLACE;
+use crate::format::{Format, HIRID, INFORMATION_BITS, LINE_BYTES, S_VISSR, S_VISSR_ONES};
 use crate::lines;
 use crate::numbers::{read_bcd, read_i, read_r, R};
 use crate::pattern;
@@ -28,14 +29,35 @@ fn r_text(r: &R) -> String {
 
 /// The check word of a DOC sector of zeros but for the data bits given, which
 /// are counted from the end: 0 is the last.
-fn doc_check_word(set_from_the_end: &[usize]) -> u16 {
+fn doc_check_word(start: u16, set_from_the_end: &[usize]) -> u16 {
     let mut id_and_data = SECTORS[0].id();
     id_and_data.extend(vec![0; SECTORS[0].data_bits()]);
     for place in set_from_the_end {
         let last = id_and_data.len() - 1;
         id_and_data[last - place] = 1;
     }
-    check_word(&id_and_data)
+    check_word(start, &id_and_data)
+}
+
+/// What a format says of the DOC sector of a line.
+fn judged(format_number: usize, line: &[u8]) -> String {
+    match accepted(format_number, line, 1) {
+        Ok(()) => "accepted".to_string(),
+        Err(number) => format!("refused {number}"),
+    }
+}
+
+/// A line whose DOC sector of zeros has the check word of format 1 or of 3, as
+/// either format has it.
+fn zeros_row(written_in: usize) -> String {
+    let mut line = vec![0; LINE_BYTES];
+    put_data(written_in, &mut line, 1, &vec![0; SECTORS[0].data_bytes()]).expect("served");
+    format!(
+        "DOC of zeros with {}: format 1 {}, format 3 {}",
+        hex(&line[LAST_PLACE..LAST_PLACE + 2]),
+        judged(1, &line),
+        judged(3, &line)
+    )
 }
 
 /// The lines of a recording of the tail's first bits and zero bits behind.
@@ -111,10 +133,10 @@ pub fn rows() -> Vec<String> {
     add(format!("P2 {}", hex(&bits::to_bytes(&turn(&[0; 32])))));
     let mut line = vec![0; LINE_BYTES];
     put_data(1, &mut line, 1, &vec![0; SECTORS[0].data_bytes()]).expect("served");
-    let judged = accepted(1, &line, 1).map_or("refused", |()| "accepted");
-    add(format!("P3 {:04X} {judged}", doc_check_word(&[])));
-    add(format!("P4 {:04X}", doc_check_word(&[0])));
-    add(format!("P5 {:04X}", doc_check_word(&[1])));
+    let judged = judged(1, &line);
+    add(format!("P3 {:04X} {judged}", doc_check_word(0, &[])));
+    add(format!("P4 {:04X}", doc_check_word(0, &[0])));
+    add(format!("P5 {:04X}", doc_check_word(0, &[1])));
     add(format!("P6 {}", join(255, 3)));
     add(format!("P7 {}", join(1, 0)));
     let p8 = read_r(&[0x00, 0x00, 0x07, 0xB5], 4, 2).expect("served");
@@ -149,7 +171,7 @@ pub fn rows() -> Vec<String> {
     ));
     add(format!("buffer 44356: {}", read_zeros(&[0], LINE_BYTES)));
 
-    for (number, format) in [(1, S_VISSR), (2, HIRID)] {
+    for (number, format) in [(1, S_VISSR), (2, HIRID), (3, S_VISSR_ONES)] {
         let sync = sync(format.sync_bits);
         add(format!(
             "format {number} SYNC {} opens {} ends {} {}",
@@ -166,18 +188,22 @@ pub fn rows() -> Vec<String> {
         "format 2 dummy and SYNC",
         &dummy_and_sync(&HIRID),
     ));
+    add(zeros_row(1));
+    add(zeros_row(3));
 
     for (index, sector) in SECTORS.iter().enumerate() {
         let mut id_and_data = sector.id();
         id_and_data.extend(vec![0; sector.data_bits()]);
+        let word = |format: Format| check_word(format.check_start, &id_and_data);
         add(format!(
-            "sector {} {} of zeros: check word {:04X}",
+            "sector {} {} of zeros: check word {:04X}, in format 3 {:04X}",
             index + 1,
             sector.name,
-            check_word(&id_and_data)
+            word(S_VISSR),
+            word(S_VISSR_ONES)
         ));
     }
-    for number in [1, 2] {
+    for number in [1, 2, 3] {
         let zeros = pattern::line_of_zeros(number).expect("served");
         add(wire_row(number, "line of zeros", &zeros));
         for k in [0, 1, 199] {

@@ -41,7 +41,7 @@ fn every_cut(format: usize, setting: usize, recording: &[u8], random: &mut Rando
 #[test]
 fn every_cut_gives_the_lines_of_the_uncut_recording() {
     let mut random = Random::new(2);
-    for format in [1, 2] {
+    for format in [1, 2, 3] {
         for kind in 0..damage::KINDS {
             let (name, recording) = damage::make(kind, format, &mut random);
             // half of them at setting 0
@@ -56,7 +56,7 @@ fn every_cut_gives_the_lines_of_the_uncut_recording() {
 #[test]
 fn every_cut_of_an_iced_recording_gives_its_lines() {
     let mut random = Random::new(9);
-    for format in [1, 2] {
+    for format in [1, 2, 3] {
         for setting in 0..=6 {
             let mut received = Received::new(format, 2);
             for k in 0..2 {
@@ -75,7 +75,7 @@ fn every_cut_of_an_iced_recording_gives_its_lines() {
 fn the_kinds_of_recording_hold_what_they_say() {
     let count = |recording: &[u8]| lines(0, &bits::from_bytes(recording)).len();
     let mut random = Random::new(3);
-    for format in [1, 2] {
+    for format in [1, 2, 3] {
         assert_eq!(count(&damage::good(format, 3)), 3);
         // Cut inside the last line's information; a cut in HiRID's dummy
         // alone would leave the line whole.

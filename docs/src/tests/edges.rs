@@ -3,7 +3,7 @@
 
 use second::bits;
 use second::blocks::{ir_place, vis_place, BLOCKS};
-use second::format::{HIRID, INFORMATION_BITS, LINE_BYTES, S_VISSR};
+use second::format::{HIRID, INFORMATION_BITS, LINE_BYTES, S_VISSR, S_VISSR_ONES};
 use second::lines::{after_first_tail, lines};
 use second::numbers::{read_bcd, read_i, read_r, R};
 use second::pattern;
@@ -22,9 +22,11 @@ fn p1_the_first_four_scrambling_bytes() {
 
 #[test]
 fn p2_a_plain_line_opening_with_zeros() {
-    let mut wire = vec![0; S_VISSR.wire_bytes];
-    write_line(1, &vec![0; LINE_BYTES], &mut wire).unwrap();
-    assert_eq!(wire[1_250..1_254], [0x00, 0xFD, 0x00, 0xF3]);
+    for number in [1, 3] {
+        let mut wire = vec![0; S_VISSR.wire_bytes];
+        write_line(number, &vec![0; LINE_BYTES], &mut wire).unwrap();
+        assert_eq!(wire[1_250..1_254], [0x00, 0xFD, 0x00, 0xF3]);
+    }
 
     let mut wire = vec![0; HIRID.wire_bytes];
     write_line(2, &vec![0; LINE_BYTES], &mut wire).unwrap();
@@ -32,27 +34,33 @@ fn p2_a_plain_line_opening_with_zeros() {
 }
 
 /// A DOC sector of zeros but for one bit of its last byte, and its check word.
-fn doc_with_last_byte(byte: u8) -> (Vec<u8>, u16) {
+fn doc_with_last_byte(format: usize, byte: u8) -> (Vec<u8>, u16) {
     let mut doc = vec![0; 2_291];
     doc[2_290] = byte;
     let mut line = vec![0; LINE_BYTES];
-    put_data(1, &mut line, 1, &doc).unwrap();
+    put_data(format, &mut line, 1, &doc).unwrap();
     let word = u16::from_be_bytes([line[2_293], line[2_294]]);
     (line, word)
 }
 
+/// P3, P4 and P5 are of the formats whose start value is 0.
 #[test]
 fn p3_to_p5_check_words() {
-    for (byte, expected) in [(0, 0x0000), (1, 0x1021), (2, 0x2042)] {
-        let (line, word) = doc_with_last_byte(byte);
-        assert_eq!(word, expected);
-        assert_eq!(accepted(1, &line, 1), Ok(()));
+    for format in [1, 2] {
+        for (byte, expected) in [(0, 0x0000), (1, 0x1021), (2, 0x2042)] {
+            let (line, word) = doc_with_last_byte(format, byte);
+            assert_eq!(word, expected);
+            assert_eq!(accepted(format, &line, 1), Ok(()));
+        }
     }
 }
 
+/// "so a DOC sector of zeros with check word 0000 is refused with 5" in format 3
 #[test]
-fn p3_all_zero_bytes_are_an_accepted_doc_sector() {
-    assert_eq!(accepted(1, &vec![0; LINE_BYTES], 1), Ok(()));
+fn p3_all_zero_bytes_are_an_accepted_doc_sector_unless_the_check_starts_from_ones() {
+    for (format, expected) in [(1, Ok(())), (2, Ok(())), (3, Err(5))] {
+        assert_eq!(accepted(format, &vec![0; LINE_BYTES], 1), expected);
+    }
 }
 
 #[test]
@@ -139,18 +147,28 @@ fn vectors_print_the_list() {
         "buffer 44356: taken 1 complete false",
         "format 1 SYNC 10000 opens 101010010100000 ends 010101010101010 111111111111111",
         "format 2 SYNC 20000 opens 010001001100001 ends 010101010101010 111111111111111",
+        "format 3 SYNC 10000 opens 101010010100000 ends 010101010101010 111111111111111",
         "tail 4B BB B9 99 95 55 7F FF",
         "format 1 SYNC: earlier windows are 9 or more places from the tail, 9 at [5782]",
         "format 2 SYNC: earlier windows are 9 or more places from the tail, 9 at [5409, 6292, 15782]",
     ];
     assert_eq!(rows[..expected.len()], expected);
-    assert!(rows.contains(&"sector 1 DOC of zeros: check word 0000".to_string()));
+    for row in [
+        "DOC of zeros with 00 00: format 1 accepted, format 3 refused 5",
+        "DOC of zeros with 90 63: format 1 refused 5, format 3 accepted",
+        "sector 1 DOC of zeros: check word 0000, in format 3 9063",
+    ] {
+        assert!(rows.iter().any(|given| given == row), "{row}");
+    }
 }
 
 #[test]
 fn the_lengths_add_up() {
     assert_eq!(S_VISSR.sync_bits + INFORMATION_BITS, 8 * S_VISSR.wire_bytes);
     assert_eq!(S_VISSR.dummy_bits, 0);
+    let ones_bits = S_VISSR_ONES.sync_bits + INFORMATION_BITS;
+    assert_eq!(ones_bits, 8 * S_VISSR_ONES.wire_bytes);
+    assert_eq!(S_VISSR_ONES.dummy_bits, 0);
     let hirid_bits = HIRID.sync_bits + INFORMATION_BITS + HIRID.dummy_bits;
     assert_eq!(hirid_bits, 396_000);
     assert_eq!(hirid_bits, 8 * HIRID.wire_bytes);
@@ -454,7 +472,9 @@ fn a_negative_zero_stays_one() {
     assert_eq!(r.value().to_bits(), 0.0f64.to_bits());
 }
 
-/// The division on paper against a register of sixteen bits.
+/// The division on paper against a register of sixteen bits. A card that presets
+/// its register takes each bit in at the top: the start value meets the first
+/// sixteen bits, and what is left is the remainder with sixteen zeros behind.
 #[test]
 fn the_remainder_is_that_of_the_polynomial() {
     let mut random = second::damage::Random::new(1);
@@ -467,10 +487,18 @@ fn the_remainder_is_that_of_the_polynomial() {
                 register ^= 0x1_1021;
             }
         }
-        assert_eq!(u32::from(remainder(&dividend)), register);
-        let mut with_check = dividend.clone();
-        with_check.extend(bits::of_number(check_word(&dividend).into(), 16));
-        assert_eq!(remainder(&with_check), 0);
+        assert_eq!(u32::from(remainder(0, &dividend)), register);
+        for start in [0, 1, 0x8000, 0xFFFE, 0xFFFF] {
+            let mut preset = start;
+            for &bit in &dividend {
+                let top = (preset >> 15) as u8 ^ bit;
+                preset = preset << 1 ^ if top == 1 { 0x1021 } else { 0 };
+            }
+            assert_eq!(check_word(start, &dividend), preset);
+            let mut with_check = dividend.clone();
+            with_check.extend(bits::of_number(preset.into(), 16));
+            assert_eq!(remainder(start, &with_check), 0);
+        }
     }
 }
 

@@ -33,7 +33,8 @@ fn point(format: usize, row: usize, column: usize) -> GridPoint {
 
 #[test]
 fn every_column_is_the_sources() {
-    for (format, columns) in (1..).zip(COLUMNS) {
+    // "format 3 is format 1 with ones"
+    for (format, columns) in [(1, COLUMNS[0]), (2, COLUMNS[1]), (3, COLUMNS[0])] {
         for (column, words) in columns.iter().enumerate() {
             let (degrees, side) = words.split_once(' ').unwrap();
             let degrees: i32 = degrees.parse().unwrap();
@@ -48,7 +49,7 @@ fn every_column_is_the_sources() {
 /// 001's sample program counts on past 180: the same meridians.
 #[test]
 fn columns_are_five_degrees_apart() {
-    for (format, first) in [(1, 45), (2, 80)] {
+    for (format, first) in [(1, 45), (2, 80), (3, 45)] {
         for column in 0..25 {
             let longitude = point(format, 0, column).longitude;
             let counted = first + 5 * column as i32;
@@ -69,6 +70,7 @@ fn nothing_else_goes_by_the_format() {
     for row in 0..25 {
         for column in 0..25 {
             assert_eq!(of(1, row, column), of(2, row, column));
+            assert_eq!(of(1, row, column), of(3, row, column));
         }
     }
     let block = pattern::block(1, false);
@@ -79,6 +81,7 @@ fn nothing_else_goes_by_the_format() {
                 let number =
                     |format| blocks::mapping(format, assembly, &block[..bytes], row, column).err();
                 assert_eq!(number(1), number(2));
+                assert_eq!(number(1), number(3));
             }
         }
     }

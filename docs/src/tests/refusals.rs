@@ -54,12 +54,16 @@ fn every_set(can_have: &[u8], mut call: impl FnMut(&Faults) -> Result<(), u8>) {
     }
 }
 
-/// Changes a sector's ID and makes its check word right again.
-fn give_wrong_id(line: &mut [u8], number: usize) {
+/// The formats that are served; 0 and 4 stand beside them.
+const FORMATS: [usize; 3] = [1, 2, 3];
+
+/// Changes a sector's ID and makes its check word right again, in a format.
+fn give_wrong_id(format_number: usize, line: &mut [u8], number: usize) {
+    let start = format(format_number).unwrap().check_start;
     let sector = &SECTORS[number - 1];
     let length = sector.id().len() + sector.data_bits();
     bits::set_bit(line, sector.start, 1 - sector.id()[0]);
-    let word = check_word(&bits::part(line, sector.start, length));
+    let word = check_word(start, &bits::part(line, sector.start, length));
     for (i, bit) in bits::of_number(word.into(), 16).into_iter().enumerate() {
         bits::set_bit(line, sector.start + length + i, bit);
     }
@@ -73,22 +77,24 @@ fn damage(line: &mut [u8], number: usize) {
     bits::set_bit(line, last, turned);
 }
 
-/// Line 9 of the pattern: segment 1, repeat 1. It is made once and copied.
-fn good_line() -> Vec<u8> {
-    static LINE: OnceLock<Vec<u8>> = OnceLock::new();
-    LINE.get_or_init(|| pattern::line(1, 9, 0).unwrap()).clone()
+/// Line 9 of the pattern: segment 1, repeat 1. It is made once for each format
+/// and copied.
+fn good_line(format: usize) -> Vec<u8> {
+    static LINES: OnceLock<[Vec<u8>; 3]> = OnceLock::new();
+    let made = || FORMATS.map(|format| pattern::line(format, 9, 0).unwrap());
+    LINES.get_or_init(made)[format - 1].clone()
 }
 
-/// The good line with the faults 6, 5 and 2 in a sector.
-fn line_with(faults: &Faults, sector: usize) -> Vec<u8> {
-    let mut line = good_line();
-    spoil(&mut line, faults, sector);
+/// The good line of a format with the faults 6, 5 and 2 in a sector.
+fn line_with(format: usize, faults: &Faults, sector: usize) -> Vec<u8> {
+    let mut line = good_line(format);
+    spoil(format, &mut line, faults, sector);
     line
 }
 
-fn spoil(line: &mut Vec<u8>, faults: &Faults, sector: usize) {
+fn spoil(format: usize, line: &mut Vec<u8>, faults: &Faults, sector: usize) {
     if faults.has(6) {
-        give_wrong_id(line, sector);
+        give_wrong_id(format, line, sector);
     }
     if faults.has(5) {
         damage(line, sector);
@@ -98,11 +104,12 @@ fn spoil(line: &mut Vec<u8>, faults: &Faults, sector: usize) {
     }
 }
 
-/// Writes bytes at a place of the sector DOC and makes it accepted again.
-fn doc_with(line: &mut [u8], place: usize, bytes: &[u8]) {
+/// Writes bytes at a place of the sector DOC and makes it accepted again, in a
+/// format.
+fn doc_with(format: usize, line: &mut [u8], place: usize, bytes: &[u8]) {
     let mut doc = line[2..2_293].to_vec();
     doc[place - 3..place - 3 + bytes.len()].copy_from_slice(bytes);
-    sectors::put_data(1, line, 1, &doc).unwrap();
+    sectors::put_data(format, line, 1, &doc).unwrap();
 }
 
 #[test]
@@ -116,7 +123,7 @@ fn reading() {
         };
         let mut state = before;
         let mut buffer = vec![0xEE; faults.pick(2, LINE_BYTES - 1, LINE_BYTES)];
-        let (format, setting) = (faults.pick(1, 3, 1), faults.pick(13, 7, 6));
+        let (format, setting) = (faults.pick(1, 4, 3), faults.pick(13, 7, 6));
         let given = read(format, setting, &mut state, &[0, 0], &mut buffer);
         if given.is_err() {
             assert_eq!(state, before);
@@ -152,7 +159,7 @@ fn settings() {
 
 #[test]
 fn writing_a_line() {
-    for number in [1, 2] {
+    for number in FORMATS {
         let bytes = format(number).unwrap().wire_bytes;
         every_set(&[1, 2, 3], |faults| {
             let line = vec![0; faults.pick(2, LINE_BYTES - 1, LINE_BYTES + 1)];
@@ -172,33 +179,36 @@ fn writing_a_line() {
 
 #[test]
 fn checking_a_sector() {
-    for sector in [1, 4, 5, 8, 9, 12] {
-        every_set(&[1, 4, 2, 5, 6], |faults| {
-            let line = line_with(faults, sector);
-            sectors::accepted(faults.pick(1, 3, 2), &line, faults.pick(4, 13, sector))
-        });
+    for format in FORMATS {
+        for sector in [1, 4, 5, 8, 9, 12] {
+            every_set(&[1, 4, 2, 5, 6], |faults| {
+                let line = line_with(format, faults, sector);
+                let sector = faults.pick(4, 13, sector);
+                sectors::accepted(faults.pick(1, 4, format), &line, sector)
+            });
+        }
     }
 }
 
 #[test]
 fn counting_filler_refuses_neither_5_nor_6() {
     every_set(&[1, 4, 2], |faults| {
-        let mut line = line_with(faults, 7);
-        give_wrong_id(&mut line, 7);
+        let mut line = line_with(2, faults, 7);
+        give_wrong_id(2, &mut line, 7);
         damage(&mut line, 7);
-        let given = sectors::filler(faults.pick(1, 3, 2), &line, faults.pick(4, 0, 7));
+        let given = sectors::filler(faults.pick(1, 4, 2), &line, faults.pick(4, 0, 7));
         given.map(|filler| assert_eq!(filler, 0))
     });
 }
 
 #[test]
 fn reading_sector_data() {
-    for sector in [1, 4, 5, 8, 9, 12] {
+    for (format, sector) in [(1, 1), (2, 4), (3, 5), (1, 8), (2, 9), (3, 12), (3, 1)] {
         let bytes = SECTORS[sector - 1].data_bytes();
         every_set(&[1, 4, 2, 3, 5, 6], |faults| {
-            let line = line_with(faults, sector);
+            let line = line_with(format, faults, sector);
             let mut out = vec![0xEE; faults.pick(3, bytes - 1, bytes)];
-            let format = faults.pick(1, 3, 1);
+            let format = faults.pick(1, 4, format);
             let given = sectors::data(format, &line, faults.pick(4, 0, sector), &mut out);
             if given.is_err() {
                 assert!(out.iter().all(|&byte| byte == 0xEE));
@@ -210,12 +220,12 @@ fn reading_sector_data() {
 
 #[test]
 fn reading_pixels() {
-    for sector in [2, 6, 11, 12] {
+    for (format, sector) in [(2, 2), (3, 6), (1, 11), (3, 12)] {
         let count = SECTORS[sector - 1].count;
         every_set(&[1, 4, 2, 3, 5, 6], |faults| {
-            let line = line_with(faults, sector);
+            let line = line_with(format, faults, sector);
             let mut out = vec![0xEEEE; faults.pick(3, count - 1, count)];
-            let format = faults.pick(1, 0, 2);
+            let format = faults.pick(1, 0, format);
             let given = sectors::pixels(format, &line, faults.pick(4, 1, sector), &mut out);
             if given.is_err() {
                 assert!(out.iter().all(|&pixel| pixel == 0xEEEE));
@@ -227,12 +237,12 @@ fn reading_pixels() {
 
 #[test]
 fn joining_pixels() {
-    for channel in 1..=3 {
+    for (format, channel) in [(1, 1), (2, 2), (3, 3), (3, 1)] {
         for sector in [channel + 1, channel + 8] {
             every_set(&[1, 4, 2, 3, 5, 6], |faults| {
-                let line = line_with(faults, sector);
+                let line = line_with(format, faults, sector);
                 let mut out = vec![0xEEEE; faults.pick(3, 2_290, 2_291)];
-                let format = faults.pick(1, 3, 1);
+                let format = faults.pick(1, 4, format);
                 let given = sectors::joined(format, &line, faults.pick(4, 4, channel), &mut out);
                 if given.is_err() {
                     assert!(out.iter().all(|&pixel| pixel == 0xEEEE));
@@ -246,41 +256,46 @@ fn joining_pixels() {
 /// "Joined pixels test the upper sector for 5 and 6, then the lower."
 #[test]
 fn the_upper_sector_is_tested_before_the_lower() {
-    let mut line = good_line();
-    give_wrong_id(&mut line, 2);
-    damage(&mut line, 9);
-    let mut out = vec![0xEEEE; 2_291];
-    assert_eq!(sectors::joined(1, &line, 1, &mut out), Err(6));
+    for format in FORMATS {
+        let mut line = good_line(format);
+        give_wrong_id(format, &mut line, 2);
+        damage(&mut line, 9);
+        let mut out = vec![0xEEEE; 2_291];
+        assert_eq!(sectors::joined(format, &line, 1, &mut out), Err(6));
 
-    let mut line = good_line();
-    damage(&mut line, 2);
-    give_wrong_id(&mut line, 9);
-    assert_eq!(sectors::joined(1, &line, 1, &mut out), Err(5));
-    assert_eq!(out, vec![0xEEEE; 2_291]);
+        let mut line = good_line(format);
+        damage(&mut line, 2);
+        give_wrong_id(format, &mut line, 9);
+        assert_eq!(sectors::joined(format, &line, 1, &mut out), Err(5));
+        assert_eq!(out, vec![0xEEEE; 2_291]);
+    }
 }
 
 #[test]
 fn asking_of_all_twelve_sectors() {
-    every_set(&[1, 2], |faults| {
-        let line = line_with(faults, 1);
-        let given = sectors::answers(faults.pick(1, 3, 1), &line);
-        given.map(|answers| assert_eq!(answers, [0; 12]))
-    });
+    for format in FORMATS {
+        every_set(&[1, 2], |faults| {
+            let line = line_with(format, faults, 1);
+            let given = sectors::answers(faults.pick(1, 4, format), &line);
+            given.map(|answers| assert_eq!(answers, [0; 12]))
+        });
+    }
 }
 
 /// Each of the twelve answers is that of `accepted`.
 #[test]
 fn each_of_the_twelve_answers_is_its_sectors_own() {
-    for (damaged, renamed) in [(1, 2), (2, 9), (5, 12), (8, 7), (9, 11), (12, 1)] {
-        let mut line = good_line();
+    let pairs = [(1, 2), (2, 9), (5, 12), (8, 7), (9, 11), (12, 1)];
+    for ((damaged, renamed), format) in pairs.into_iter().zip([1, 2, 3, 1, 2, 3]) {
+        let mut line = good_line(format);
         damage(&mut line, damaged);
-        give_wrong_id(&mut line, renamed);
+        give_wrong_id(format, &mut line, renamed);
         let mut expected = [0; 12];
         expected[damaged - 1] = 5;
         expected[renamed - 1] = 6;
-        assert_eq!(sectors::answers(1, &line), Ok(expected));
+        assert_eq!(sectors::answers(format, &line), Ok(expected));
         for sector in 1..=12 {
-            let own = sectors::accepted(1, &line, sector).err().unwrap_or(0);
+            let own = sectors::accepted(format, &line, sector).err().unwrap_or(0);
             assert_eq!(own, expected[sector - 1]);
         }
     }
@@ -288,15 +303,17 @@ fn each_of_the_twelve_answers_is_its_sectors_own() {
 
 #[test]
 fn filling_the_visible_strip() {
-    every_set(&[1, 2, 3], |faults| {
-        let line = line_with(faults, 5);
-        let mut strip = vec![0xEE; faults.pick(3, STRIP_BYTES - 1, STRIP_BYTES)];
-        let given = sectors::visible(faults.pick(1, 3, 1), &line, &mut strip);
-        if given.is_err() {
-            assert!(strip.iter().all(|&byte| byte == 0xEE));
-        }
-        given.map(|answers| assert_eq!(answers, [0; 4]))
-    });
+    for format in FORMATS {
+        every_set(&[1, 2, 3], |faults| {
+            let line = line_with(format, faults, 5);
+            let mut strip = vec![0xEE; faults.pick(3, STRIP_BYTES - 1, STRIP_BYTES)];
+            let given = sectors::visible(faults.pick(1, 4, format), &line, &mut strip);
+            if given.is_err() {
+                assert!(strip.iter().all(|&byte| byte == 0xEE));
+            }
+            given.map(|answers| assert_eq!(answers, [0; 4]))
+        });
+    }
 }
 
 /// "the part of a sector that is not accepted stays as it was, and four
@@ -304,7 +321,8 @@ fn filling_the_visible_strip() {
 #[test]
 fn the_parts_of_bad_visible_sectors_stay() {
     for bad in 0..16 {
-        let mut line = good_line();
+        let format = 1 + bad % 3;
+        let mut line = good_line(format);
         let mut expected = [0; 4];
         for (v, answer) in expected.iter_mut().enumerate() {
             if bad >> v & 1 == 0 {
@@ -314,12 +332,12 @@ fn the_parts_of_bad_visible_sectors_stay() {
                 damage(&mut line, 5 + v);
                 *answer = 5;
             } else {
-                give_wrong_id(&mut line, 5 + v);
+                give_wrong_id(format, &mut line, 5 + v);
                 *answer = 6;
             }
         }
         let mut strip = vec![0xEE; STRIP_BYTES + 1];
-        assert_eq!(sectors::visible(1, &line, &mut strip), Ok(expected));
+        assert_eq!(sectors::visible(format, &line, &mut strip), Ok(expected));
         for v in 0..4 {
             let part = &strip[9_164 * v..9_164 * (v + 1)];
             let sent: Vec<u8> = pattern::pixels(5 + v, 9).iter().map(|&p| p as u8).collect();
@@ -340,7 +358,7 @@ fn writing_sector_data() {
                 let mut line = vec![0xEE; LINE_BYTES - usize::from(too_few && short_line)];
                 let data = vec![1; bytes - usize::from(too_few && !short_line)];
                 let number = faults.pick(4, 13, sector);
-                let given = sectors::put_data(faults.pick(1, 3, 1), &mut line, number, &data);
+                let given = sectors::put_data(faults.pick(1, 4, 3), &mut line, number, &data);
                 if given.is_err() {
                     assert!(line.iter().all(|&byte| byte == 0xEE));
                 }
@@ -362,7 +380,7 @@ fn writing_pixels() {
                 let mut pixels = vec![highest; count - usize::from(too_few && !short_line)];
                 *pixels.last_mut().unwrap() += faults.pick(10, 1, 0);
                 let number = faults.pick(4, 1, sector);
-                let given = sectors::put_pixels(faults.pick(1, 3, 2), &mut line, number, &pixels);
+                let given = sectors::put_pixels(faults.pick(1, 4, 3), &mut line, number, &pixels);
                 if given.is_err() {
                     assert!(line.iter().all(|&byte| byte == 0xEE));
                 }
@@ -388,14 +406,14 @@ fn pixels_that_the_sector_does_not_take_are_not_looked_at() {
 
 #[test]
 fn formats_sectors_and_channels_on_both_sides() {
+    for number in FORMATS {
+        let line = pattern::line(number, 0, 0).unwrap();
+        assert_eq!(sectors::accepted(number, &line, 1), Ok(()));
+    }
     let line = pattern::line(1, 0, 0).unwrap();
-    for number in 0..5 {
-        let expected = if (1..=2).contains(&number) {
-            Ok(())
-        } else {
-            Err(1)
-        };
-        assert_eq!(sectors::accepted(number, &line, 1), expected);
+    for number in [0, 4, 5, 255, 256, 257, 259, usize::MAX] {
+        assert_eq!(format(number), Err(1));
+        assert_eq!(sectors::accepted(number, &line, 1), Err(1));
     }
     for number in 0..20 {
         let served = |first: usize| if (first..=12).contains(&number) { 0 } else { 4 };
@@ -502,14 +520,16 @@ fn a_digit_over_9_is_refused_wherever_it_stands() {
 fn document_call<T>(bad: Option<(usize, u8)>, call: impl Fn(usize, &[u8]) -> Result<T, u8>) {
     let mut can_have = vec![1, 2, 5, 6];
     can_have.extend(bad.map(|_| 7));
-    every_set(&can_have, |faults| {
-        let mut line = good_line();
-        if let (true, Some((place, byte))) = (faults.has(7), bad) {
-            doc_with(&mut line, place, &[byte]);
-        }
-        spoil(&mut line, faults, 1);
-        call(faults.pick(1, 3, 1), &line).map(|_| ())
-    });
+    for format in [1, 3] {
+        every_set(&can_have, |faults| {
+            let mut line = good_line(format);
+            if let (true, Some((place, byte))) = (faults.has(7), bad) {
+                doc_with(format, &mut line, place, &[byte]);
+            }
+            spoil(format, &mut line, faults, 1);
+            call(faults.pick(1, 4, format), &line).map(|_| ())
+        });
+    }
 }
 
 #[test]
@@ -550,8 +570,8 @@ fn documentation_fields() {
 #[test]
 fn a_call_does_not_look_at_the_bytes_of_another() {
     let bad_at = |place: usize| {
-        let mut line = good_line();
-        doc_with(&mut line, place, &[0xFF]);
+        let mut line = good_line(1);
+        doc_with(1, &mut line, place, &[0xFF]);
         line
     };
     for place in 3..=200 {
@@ -585,8 +605,8 @@ fn date_parts_on_both_sides() {
         (27, 0, 99),
     ] {
         for value in 0..100 {
-            let mut line = good_line();
-            doc_with(&mut line, place, &pattern::bcd(value, 1));
+            let mut line = good_line(1);
+            doc_with(1, &mut line, place, &pattern::bcd(value, 1));
             let served = (low..=high).contains(&value);
             let given = document::date(1, &line);
             assert_eq!(given.err(), if served { None } else { Some(7) });
@@ -598,8 +618,8 @@ fn date_parts_on_both_sides() {
 fn sub_commutation_on_both_sides() {
     for (place, highest) in [(193, 0), (194, 24), (195, 0), (196, 7)] {
         for byte in 0..=255 {
-            let mut line = good_line();
-            doc_with(&mut line, place, &[byte]);
+            let mut line = good_line(1);
+            doc_with(1, &mut line, place, &[byte]);
             let given = document::sub_commutation(1, &line);
             assert_eq!(given.err(), if byte <= highest { None } else { Some(7) });
         }
@@ -615,29 +635,29 @@ fn fields_by_place() {
             false => 2_293 - n + 1,
         };
         let line_of = |faults: &Faults| {
-            let mut line = good_line();
+            let mut line = good_line(3);
             if faults.has(7) {
-                doc_with(&mut line, 2_293, &[0x0A]);
+                doc_with(3, &mut line, 2_293, &[0x0A]);
             }
             let left: Vec<u8> = faults.0.clone();
             let left = left.into_iter().filter(|&f| f != 2 || !place_is_wrong);
-            spoil(&mut line, &Faults(left.collect()), 1);
+            spoil(3, &mut line, &Faults(left.collect()), 1);
             line
         };
         every_set(&[1, 10, 2, 5, 6], |faults| {
             let (line, place) = (line_of(faults), place_of(faults, 4));
             let n = faults.pick(10, 5, 4);
-            document::field_i(faults.pick(1, 0, 1), &line, place, n).map(|_| ())
+            document::field_i(faults.pick(1, 0, 3), &line, place, n).map(|_| ())
         });
         every_set(&[1, 10, 2, 5, 6, 7], |faults| {
             let (line, place) = (line_of(faults), place_of(faults, 6));
             let n = faults.pick(10, 0, 6);
-            document::field_bcd(faults.pick(1, 0, 1), &line, place, n).map(|_| ())
+            document::field_bcd(faults.pick(1, 0, 3), &line, place, n).map(|_| ())
         });
         every_set(&[1, 10, 2, 5, 6], |faults| {
             let (line, place) = (line_of(faults), place_of(faults, 6));
             let m = faults.pick(10, 16, 0);
-            document::field_r(faults.pick(1, 0, 1), &line, place, 6, m).map(|_| ())
+            document::field_r(faults.pick(1, 0, 3), &line, place, 6, m).map(|_| ())
         });
     }
 }
@@ -663,15 +683,15 @@ fn adding_a_segment() {
         if number < MANAM {
             can_have.retain(|&fault| fault != 14);
         }
-        for short_line in [false, true] {
+        for (short_line, format) in [(false, 1), (true, 3)] {
             every_set(&can_have, |faults| {
-                let mut line = good_line();
+                let mut line = good_line(format);
                 if faults.has(7) {
-                    doc_with(&mut line, 195, &[1]);
+                    doc_with(format, &mut line, 195, &[1]);
                 }
                 let left = faults.0.iter().copied();
                 let left = left.filter(|&fault| fault != 2 || short_line);
-                spoil(&mut line, &Faults(left.collect()), 1);
+                spoil(format, &mut line, &Faults(left.collect()), 1);
 
                 let short_block = faults.has(2) && !short_line;
                 let mut whole = pattern::block(number, false);
@@ -693,7 +713,7 @@ fn adding_a_segment() {
                 let mut assembly = before;
                 let mut buffer = whole.clone();
                 let block = faults.pick(4, 6, number);
-                let format = faults.pick(1, 3, 1);
+                let format = faults.pick(1, 4, format);
                 let given = blocks::add_segment(format, &line, block, &mut assembly, &mut buffer);
                 assert_eq!(assembly, before);
                 assert!(buffer == whole);
@@ -707,7 +727,7 @@ fn adding_a_segment() {
 
 #[test]
 fn a_refused_first_copy_is_not_stored() {
-    let mut line = good_line();
+    let mut line = good_line(1);
     damage(&mut line, 1);
     let mut assembly = Assembly::default();
     let mut buffer = vec![0xEE; 2_500];
@@ -721,7 +741,7 @@ fn a_refused_first_copy_is_not_stored() {
 
 #[test]
 fn block_numbers_on_both_sides() {
-    for (format, last) in [(1, 5), (2, 4)] {
+    for (format, last) in [(1, 5), (2, 4), (3, 5)] {
         let line = pattern::line(format, 0, 0).unwrap();
         for number in 0..8 {
             let mut buffer = vec![0; 25_600];
@@ -758,24 +778,24 @@ fn assembly(faults: &Faults) -> Assembly {
 #[test]
 fn entries() {
     every_set(&[1, 12, 10, 2, 9], |faults| {
-        let format = faults.pick(1, 3, 2);
+        let format = faults.pick(1, 4, 2);
         let row = faults.pick(10, 25, 24);
         blocks::mapping(format, assembly(faults), &full(1, faults), row, 24).map(|_| ())
     });
     every_set(&[1, 12, 10, 2, 9], |faults| {
-        let format = faults.pick(1, 3, 2);
+        let format = faults.pick(1, 4, 3);
         let column = faults.pick(10, 25, 24);
         blocks::mapping(format, assembly(faults), &full(1, faults), 24, column).map(|_| ())
     });
     every_set(&[1, 12, 2, 9], |faults| {
-        let format = faults.pick(1, 3, 2);
+        let format = faults.pick(1, 4, 3);
         blocks::orbital_elements(format, assembly(faults), &full(2, faults)).map(|_| ())
     });
     // 4 is either a number that is not served or calibration-2 in format 2.
-    for by_format in [false, true] {
+    for (by_format, right) in [(false, 1), (false, 3), (true, 1), (true, 3)] {
         every_set(&[1, 12, 4, 10, 2, 9], |faults| {
             let wrong_format = faults.has(4) && by_format;
-            let format = faults.pick(1, 3, if wrong_format { 2 } else { 1 });
+            let format = faults.pick(1, 4, if wrong_format { 2 } else { right });
             let number = if faults.has(4) && (!by_format || faults.has(1)) {
                 5
             } else {
@@ -796,17 +816,17 @@ fn entries() {
 /// mapping and orbit too, and for calibration-2 in format 2.
 #[test]
 fn asking_for_a_revision() {
-    for format in [1, 2] {
-        for number in 3..=4 + usize::from(format == 1) {
+    for format in FORMATS {
+        for number in 3..=4 + usize::from(format != 2) {
             for not_served in [0, 1, 2, 6, 255, 256, 259, usize::MAX, 5] {
-                if format == 1 && not_served == 5 {
+                if format != 2 && not_served == 5 {
                     continue;
                 }
                 every_set(&[1, 12, 4, 2, 9], |faults| {
                     let block = full(number, faults);
                     let asked = faults.pick(4, not_served, number);
                     let given = blocks::revision(
-                        faults.pick(1, 3, format),
+                        faults.pick(1, 4, format),
                         assembly(faults),
                         asked,
                         &block,
@@ -1000,7 +1020,7 @@ fn impossible_records() {
         assert_eq!(read(1, 0, &mut now, &[1; 50], &mut buffer), Err(12));
         assert_eq!(read(1, 6, &mut now, &[], &mut buffer), Err(12));
         assert_eq!(read(1, 7, &mut now, &[], &mut buffer), Err(13));
-        assert_eq!(read(3, 7, &mut now, &[], &mut buffer), Err(1));
+        assert_eq!(read(4, 7, &mut now, &[], &mut buffer), Err(1));
         assert_eq!(read(2, 0, &mut now, &[], &mut []), Err(12));
         assert_eq!(now, state);
         assert_eq!(buffer, vec![0xEE; LINE_BYTES]);

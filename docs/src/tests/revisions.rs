@@ -348,11 +348,11 @@ fn a_finished_block_says_its_revision() {
         let block = vec![0xEE; 25_601];
         assert_eq!(blocks::revision(1, finished, MAPPING, &block), Err(4));
         assert_eq!(blocks::revision(1, finished, ORBIT, &block), Err(4));
-        for format in [1, 2] {
+        for format in [1, 2, 3] {
             let revision = |number| blocks::revision(format, finished, number, &block);
             assert_eq!(revision(MANAM), Ok(numbers.1));
             assert_eq!(revision(CALIBRATION_1), Ok(numbers.0));
-            let calibration_2 = if format == 1 { Ok(numbers.0) } else { Err(4) };
+            let calibration_2 = if format == 2 { Err(4) } else { Ok(numbers.0) };
             assert_eq!(revision(CALIBRATION_2), calibration_2);
         }
     }
@@ -415,7 +415,7 @@ fn recording(format: usize, tables: u64) -> Vec<Vec<u8>> {
 
 /// The blocks of a format.
 fn served(format: usize) -> std::ops::RangeInclusive<usize> {
-    1..=if format == 1 { 5 } else { 4 }
+    1..=if format == 2 { 4 } else { 5 }
 }
 
 /// What the blocks of a recording are at its end, and how many of its lines
@@ -435,7 +435,7 @@ fn made(format: usize, lines: &[Vec<u8>]) -> Vec<(Making, usize)> {
 /// segments of the first 100 lines and are never mixed.
 #[test]
 fn a_recording_across_a_change_of_tables() {
-    for format in [1, 2] {
+    for format in [1, 2, 3] {
         for (making, foreign) in made(format, &recording(format, 101)) {
             let block = making.block;
             let old = pattern::block(block, false);
@@ -459,7 +459,7 @@ fn a_recording_across_a_change_of_tables() {
 /// says whose.
 #[test]
 fn a_finished_block_is_of_one_revision() {
-    for format in [1, 2] {
+    for format in [1, 2, 3] {
         for tables in [0, 1, 2, 8, 9, 10, 192, 193, 194, 200, 201] {
             let new = tables == 1;
             // The lines of the first tables, and the segments that they bring.
@@ -492,7 +492,7 @@ fn a_finished_block_is_of_one_revision() {
 /// one is finished with the new tables.
 #[test]
 fn a_new_assembly_takes_the_new_tables() {
-    for format in [1, 2] {
+    for format in [1, 2, 3] {
         for block in served(format).filter(|&block| block >= MANAM) {
             let mut making = Making::new(format, block);
             for k in 0..300 {
@@ -522,7 +522,7 @@ fn a_new_assembly_takes_the_new_tables() {
 /// line of the recording is refused.
 #[test]
 fn without_the_comparison_a_block_is_half_of_each() {
-    for format in [1, 2] {
+    for format in [1, 2, 3] {
         for (tables, differing) in [(101, 4), (105, 0)] {
             let lines = recording(format, tables);
             let compared = made(format, &lines);
@@ -573,7 +573,7 @@ fn the_new_tables_of_the_signal() {
             true => ([0x08, 0x36], [0x02, 0xDC]),
             false => ([0x08, 0x35], [0x02, 0xDB]),
         };
-        for (format, last) in [(1, 2_114), (2, 1_090)] {
+        for (format, last) in [(1, 2_114), (2, 1_090), (3, 2_114)] {
             let doc = pattern::doc(format, k, tables);
             let none = pattern::doc(format, k, 0);
             assert_eq!(doc[28 - 3..=29 - 3], calibration);

@@ -19,7 +19,7 @@ use second::sectors::{self, SECTORS};
 #[test]
 fn a_written_line_reads_back() {
     let mut random = Random::new(10);
-    for number in [1, 2] {
+    for number in [1, 2, 3] {
         let sent = random.bytes(LINE_BYTES);
         let mut wire = vec![0; format(number).unwrap().wire_bytes];
         write_line(number, &sent, &mut wire).unwrap();
@@ -33,18 +33,23 @@ fn a_written_line_reads_back() {
     }
 }
 
+/// A format with each of the sectors.
+fn in_every_sector(format: usize) -> impl Iterator<Item = (usize, usize)> {
+    (1..=12).map(move |sector| (format, sector))
+}
+
 /// "ID, check word, zero filler; the other sectors keep their bits"
 #[test]
 fn putting_a_sector_keeps_every_other_bit() {
     let mut random = Random::new(11);
-    for number in 1..=12 {
+    for (format, number) in [1, 2, 3].into_iter().flat_map(in_every_sector) {
         let sector = &SECTORS[number - 1];
         let before = random.bytes(LINE_BYTES + 1);
         let sent = random.bytes(sector.data_bytes() + 1);
         let mut line = before.clone();
-        sectors::put_data(1, &mut line, number, &sent).unwrap();
-        assert_eq!(sectors::accepted(1, &line, number), Ok(()));
-        assert_eq!(sectors::filler(1, &line, number), Ok(0));
+        sectors::put_data(format, &mut line, number, &sent).unwrap();
+        assert_eq!(sectors::accepted(format, &line, number), Ok(()));
+        assert_eq!(sectors::filler(format, &line, number), Ok(0));
 
         let (old, new) = (bits::from_bytes(&before), bits::from_bytes(&line));
         let end = sector.start + sector.bits;
@@ -52,7 +57,7 @@ fn putting_a_sector_keeps_every_other_bit() {
         assert!(old[end..] == new[end..]);
 
         let mut read_back = vec![0; sector.data_bytes()];
-        sectors::data(1, &line, number, &mut read_back).unwrap();
+        sectors::data(format, &line, number, &mut read_back).unwrap();
         let count = sector.data_bits();
         assert!(bits::part(&read_back, 0, count) == bits::part(&sent, 0, count));
     }
@@ -61,31 +66,34 @@ fn putting_a_sector_keeps_every_other_bit() {
 #[test]
 fn pixels_read_back_and_agree_with_the_data() {
     let mut random = Random::new(12);
-    for number in 2..=12 {
+    for (format, number) in [2, 3].into_iter().flat_map(in_every_sector) {
+        if number == 1 {
+            continue;
+        }
         let sector = &SECTORS[number - 1];
         let limit = 1 << sector.width;
         let sent: Vec<u16> = (0..sector.count)
             .map(|_| random.under(limit) as u16)
             .collect();
         let mut line = random.bytes(LINE_BYTES);
-        sectors::put_pixels(2, &mut line, number, &sent).unwrap();
+        sectors::put_pixels(format, &mut line, number, &sent).unwrap();
         let mut read_back = vec![0xEEEE; sector.count + 2];
-        sectors::pixels(2, &line, number, &mut read_back).unwrap();
+        sectors::pixels(format, &line, number, &mut read_back).unwrap();
         assert!(read_back[..sector.count] == sent);
         assert_eq!(read_back[sector.count..], [0xEEEE; 2]);
 
         let mut data = vec![0; sector.data_bytes()];
-        sectors::data(2, &line, number, &mut data).unwrap();
+        sectors::data(format, &line, number, &mut data).unwrap();
         let mut again = random.bytes(LINE_BYTES);
-        sectors::put_data(2, &mut again, number, &data).unwrap();
-        sectors::pixels(2, &again, number, &mut read_back).unwrap();
+        sectors::put_data(format, &mut again, number, &data).unwrap();
+        sectors::pixels(format, &again, number, &mut read_back).unwrap();
         assert!(read_back[..sector.count] == sent);
     }
 }
 
 #[test]
 fn the_pattern_reads_back_through_every_sector_call() {
-    for number in [1, 2] {
+    for number in [1, 2, 3] {
         let recording = damage::good(number, 2);
         let found = lines(0, &bits::from_bytes(&recording));
         assert_eq!(found.len(), 2);
@@ -242,8 +250,8 @@ const FINISHED: Assembly = Assembly {
 /// 200 lines of the pattern, into all the blocks.
 #[test]
 fn blocks_come_together_from_200_lines() {
-    for number in [1, 2] {
-        let last = if number == 1 { 5 } else { 4 };
+    for number in [1, 2, 3] {
+        let last = if number == 2 { 4 } else { 5 };
         let mut assemblies = [Assembly::default(); 5];
         let mut buffers: Vec<Vec<u8>> = BLOCKS
             .iter()
@@ -335,11 +343,13 @@ fn orbital_elements_come_from_their_bytes() {
 
 #[test]
 fn the_listing_of_a_line_of_zeros() {
-    let line = pattern::line_of_zeros(1).unwrap();
-    let wire = pattern::on_the_wire(1, &line).unwrap();
-    let expected = "line 1 good 12 filler 0\ntotal 1\n";
-    assert_eq!(listing::of_recording(1, 0, &wire).unwrap(), expected);
-    assert_eq!(listing::of_recording(1, 0, &[]).unwrap(), "total 0\n");
+    for number in [1, 2, 3] {
+        let line = pattern::line_of_zeros(number).unwrap();
+        let wire = pattern::on_the_wire(number, &line).unwrap();
+        let expected = "line 1 good 12 filler 0\ntotal 1\n";
+        assert_eq!(listing::of_recording(number, 0, &wire).unwrap(), expected);
+        assert_eq!(listing::of_recording(number, 0, &[]).unwrap(), "total 0\n");
+    }
 }
 
 #[test]
@@ -359,7 +369,7 @@ fn the_listing_counts_good_sectors_and_set_filler_bits() {
 #[test]
 fn the_listing_in_pieces_is_that_of_the_plain_definition() {
     let mut random = Random::new(14);
-    for number in [1, 2] {
+    for number in [1, 2, 3] {
         for kind in 0..damage::KINDS {
             let (name, recording) = damage::make(kind, number, &mut random);
             let setting = random.under(7);
@@ -406,7 +416,7 @@ fn the_program() {
     let listing = run(&["listing"], zeros);
     assert_eq!(listing, b"line 1 good 12 filler 0\ntotal 1\n");
 
-    for format in ["1", "2"] {
+    for format in ["1", "2", "3"] {
         let signal = run(&["signal", "3", format], Vec::new());
         assert!(signal == damage::good(format.parse().unwrap(), 3));
         let listing = run(&["listing", format], signal);
@@ -421,7 +431,7 @@ fn the_program() {
 /// `signal` with wrong bits, found at their number and not below it.
 #[test]
 fn the_program_at_a_setting() {
-    for format in ["1", "2"] {
+    for format in ["1", "2", "3"] {
         let good = run(&["signal", "3", format, "0"], Vec::new());
         assert!(good == damage::good(format.parse().unwrap(), 3));
         let iced = run(&["signal", "3", format, "4"], Vec::new());
@@ -436,7 +446,9 @@ fn the_program_at_a_setting() {
     for (words, said) in [
         (&["listing", "1", "7"], "refusal 13\n"),
         (&["fields", "2", "7"], "refusal 13\n"),
-        (&["listing", "3", "7"], "refusal 1\n"),
+        (&["listing", "3", "7"], "refusal 13\n"),
+        (&["listing", "4", "7"], "refusal 1\n"),
+        (&["fields", "0", "7"], "refusal 1\n"),
     ] {
         let output = outcome(words, Vec::new());
         assert_eq!(output.status.code(), Some(2));
@@ -453,7 +465,7 @@ fn the_program_at_a_setting() {
 /// `signal` with new tables from line T on, 0 as where it is left out.
 #[test]
 fn the_program_with_new_tables() {
-    for format in ["1", "2"] {
+    for format in ["1", "2", "3"] {
         let number = format.parse().unwrap();
         let good = damage::good(number, 9);
         for none in ["0", "10", "1000000"] {
@@ -467,7 +479,7 @@ fn the_program_with_new_tables() {
 
         // Line 9 is the first of segment 1.
         let rows = String::from_utf8(run(&["fields", format], across.clone())).unwrap();
-        let last = if number == 1 { "14" } else { "4" };
+        let last = if number == 2 { "4" } else { "14" };
         assert!(rows.contains(&format!(" segment 1 repeat 0 blocks 0 0 14 14 {last}\n")));
         assert!(rows.contains("\nmapping 2/25\norbit 2/25\nMANAM 1/25 foreign 1\n"));
         // Sectors and filler are as good as before.
@@ -489,7 +501,8 @@ fn the_program_with_new_tables() {
             ["signal", "1", "1", "65", "1000001"],
             "not a number of wrong bits, 0 to 64: 65\n",
         ),
-        (["signal", "1", "3", "65", "1000001"], "refusal 1\n"),
+        (["signal", "1", "4", "65", "1000001"], "refusal 1\n"),
+        (["signal", "1", "0", "65", "1000001"], "refusal 1\n"),
     ] {
         let output = outcome(&words, Vec::new());
         assert_eq!(output.status.code(), Some(2));

@@ -187,7 +187,7 @@ fn a_call_with_another_setting_is_served() {
 #[test]
 fn an_evenly_iced_recording_gives_the_lines_that_were_sent() {
     let mut random = Random::new(22);
-    for format in [1, 2] {
+    for format in [1, 2, 3] {
         for setting in 0..=4 {
             let mut received = Received::new(format, 3);
             received.wrong_in_every_64(setting, &mut random);
@@ -204,7 +204,7 @@ fn an_evenly_iced_recording_gives_the_lines_that_were_sent() {
 #[test]
 fn an_earlier_place_of_a_written_line_may_win() {
     let mut random = Random::new(23);
-    for format in [1, 2] {
+    for format in [1, 2, 3] {
         for setting in 0..=6 {
             let mut received = Received::new(format, 1);
             let place = received.earlier(0, setting, &mut random);
@@ -228,7 +228,7 @@ fn the_wrong_bits_of_the_signal() {
     let mut all = wrong_places(5, 64);
     all.sort();
     assert!(all.into_iter().eq(0..64));
-    for (format, sync) in [(1, 10_000), (2, 20_000)] {
+    for (format, sync) in [(1, 10_000), (2, 20_000), (3, 10_000)] {
         for (k, w) in [(0, 0), (0, 1), (3, 7), (9, 64)] {
             let line = pattern::line(format, k, 0).unwrap();
             let mut sent = pattern::on_the_wire(format, &line).unwrap();

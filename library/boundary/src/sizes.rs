@@ -26,15 +26,18 @@ pub const READER: &str = "crates/reader/src/lib.rt";
 const TWELVE: &str = "crates/rack_sector/src/lib.rt";
 
 /// Every size by its name in Rust; in the header the prefix comes before it.
-const SIZES: [(&str, &str, From); 29] = [
+const SIZES: [(&str, &str, From); 32] = [
     ("S_VISSR", FORMATS, Field("fn svissr()", "number")),
     ("HIRID", FORMATS, Field("fn hirid()", "number")),
+    ("S_VISSR_ONES", FORMATS, Field("fn svissr_ones()", "number")),
     ("LARGEST_SETTING", READER, Constants("LARGEST_SETTING")),
     ("LINE_BYTES", FORMATS, Constants("LINE_BYTES")),
     ("WIRE_BYTES_1", FORMATS, Constants("BYTES_1")),
     ("WIRE_BYTES_2", FORMATS, Constants("BYTES_2")),
+    ("WIRE_BYTES_3", FORMATS, Constants("BYTES_3")),
     ("SYNC_BYTES_1", FORMATS, Constants("SYNC_BITS_1 / 8")),
     ("SYNC_BYTES_2", FORMATS, Constants("SYNC_BITS_2 / 8")),
+    ("SYNC_BYTES_3", FORMATS, Constants("SYNC_BITS_3 / 8")),
     ("SECTORS", TWELVE, Field("answers: [u8", ";")),
     ("IR_PIXELS", LAYOUT, Field("2..=4 => Layout", "count")),
     ("VIS_PIXELS", LAYOUT, Field("5..=8 => Layout", "count")),

@@ -1,8 +1,8 @@
-//! What the calls are made of, prepared once: good lines, noise to cut from,
-//! and what is needed to damage a sector in a known way quickly.
+//! What the calls are made of, prepared once: good lines of both cards, noise to
+//! cut from, and what is needed to damage a sector in a known way quickly.
 
 use second::bits::{self, bit, set_bit};
-use second::format::{INFORMATION_BITS, LINE_BYTES};
+use second::format::{self, INFORMATION_BITS, LINE_BYTES};
 use second::pattern;
 use second::scramble::after_sync;
 use second::sectors::{self, Sector, CHECK_BITS, FILLER_BITS, SECTORS};
@@ -11,16 +11,28 @@ use crate::dice::Dice;
 
 const NOISE: usize = 1 << 18;
 
+/// The formats.
+pub const FORMATS: [usize; 3] = [1, 2, 3];
+
+/// Whether a format's check starts from ones: which of the two cards it is from.
+pub fn from_ones(format: usize) -> bool {
+    format == 3
+}
+
 pub struct Pool {
     noise: Vec<u8>,
-    /// Plain lines whose twelve sectors are accepted.
-    good: Vec<Vec<u8>>,
+    /// Plain lines whose twelve sectors are accepted: of the card whose check
+    /// starts from 0, and of the one whose check starts from ones.
+    good: [Vec<Vec<u8>>; 2],
     /// Fifteen ones, then the scrambling bits after SYNC.
     scrambling: Vec<u8>,
     /// For each sector and each bit of its ID, the change of the check word
     /// that goes with a change of the bit. The check is linear: changes that
     /// are made together add up by exclusive or.
     id_checks: Vec<Vec<u16>>,
+    /// For each sector, the change of the check word from one card to the other,
+    /// which is the same whatever the sector holds.
+    card_checks: Vec<u16>,
 }
 
 /// The place of a sector's first check bit.
@@ -37,33 +49,49 @@ fn id_checks(sector: &Sector) -> Vec<u16> {
     let of_bit = |place: usize| {
         let mut id_and_data = vec![0; id_bits + sector.data_bits()];
         id_and_data[place] = 1;
-        sectors::check_word(&id_and_data)
+        sectors::check_word(0, &id_and_data)
     };
     (0..id_bits).map(of_bit).collect()
 }
 
-/// A line whose sectors hold these data.
-fn line_of(mut data: impl FnMut(usize) -> Vec<u8>) -> Vec<u8> {
+fn card_check(sector: &Sector) -> u16 {
+    let zeros = vec![0; sector.id().len() + sector.data_bits()];
+    sectors::check_word(0xFFFF, &zeros)
+}
+
+/// A line whose sectors hold these data, in a format.
+fn line_of(format: usize, mut data: impl FnMut(usize) -> Vec<u8>) -> Vec<u8> {
     let mut line = vec![0; LINE_BYTES];
     for sector in 1..=12 {
         let bytes = data(SECTORS[sector - 1].data_bytes());
-        sectors::put_data(1, &mut line, sector, &bytes).expect("a sector");
+        sectors::put_data(format, &mut line, sector, &bytes).expect("a sector");
     }
     line
+}
+
+/// Changes the check word of a sector by this one.
+fn change_check(line: &mut [u8], sector: &Sector, word: u16) {
+    for place in 0..CHECK_BITS {
+        if word >> (CHECK_BITS - 1 - place) & 1 == 1 {
+            turn_over(line, check_start(sector) + place);
+        }
+    }
 }
 
 impl Pool {
     pub fn new(dice: &mut Dice) -> Pool {
         let noise = dice.random().bytes(NOISE);
-        let mut good = vec![line_of(|count| vec![0; count])];
-        good.push(line_of(|count| vec![0xFF; count]));
-        for _ in 0..8 {
-            good.push(line_of(|count| dice.random().bytes(count)));
-        }
-        for format in [1, 2] {
+        let mut good = [vec![], vec![]];
+        for format in FORMATS {
+            let good = &mut good[usize::from(from_ones(format))];
+            good.push(line_of(format, |count| vec![0; count]));
+            good.push(line_of(format, |count| vec![0xFF; count]));
+            for _ in 0..4 {
+                good.push(line_of(format, |count| dice.random().bytes(count)));
+            }
             for tables in [0, 0, 0, 1, 1] {
                 let k = dice.under(20_000) as u64;
-                good.push(pattern::line(format, k, tables).expect("format 1 or 2"));
+                good.push(pattern::line(format, k, tables).expect("a format"));
             }
         }
         let mut scrambling = vec![1; 15];
@@ -73,6 +101,7 @@ impl Pool {
             good,
             scrambling,
             id_checks: SECTORS.iter().map(id_checks).collect(),
+            card_checks: SECTORS.iter().map(card_check).collect(),
         }
     }
 
@@ -82,9 +111,10 @@ impl Pool {
         self.noise[start..start + count].to_vec()
     }
 
-    /// A plain line whose twelve sectors are accepted.
-    pub fn good(&self, dice: &mut Dice) -> Vec<u8> {
-        self.good[dice.under(self.good.len())].clone()
+    /// A plain line whose twelve sectors are accepted in a format.
+    pub fn good(&self, format: usize, dice: &mut Dice) -> Vec<u8> {
+        let good = &self.good[usize::from(from_ones(format))];
+        good[dice.under(good.len())].clone()
     }
 
     /// The scrambling register before a line bit.
@@ -122,11 +152,12 @@ impl Pool {
                 word ^= check;
             }
         }
-        for place in 0..CHECK_BITS {
-            if word >> (CHECK_BITS - 1 - place) & 1 == 1 {
-                turn_over(line, check_start(sector) + place);
-            }
-        }
+        change_check(line, sector, word);
+    }
+
+    /// The same sector from the other card, which is refused with 5.
+    pub fn change_card(&self, line: &mut [u8], sector: usize) {
+        change_check(line, &SECTORS[sector - 1], self.card_checks[sector - 1]);
     }
 
     /// Set filler bits: the first, the last, all, or some.
@@ -153,10 +184,12 @@ impl Pool {
     }
 }
 
-/// The right check word for whatever ID and data the sector DOC has. It starts
-/// with the line and its parts are whole bytes.
-pub fn seal(line: &mut [u8]) {
+/// The right check word in a format for whatever ID and data the sector DOC has.
+/// It starts with the line and its parts are whole bytes. Of a format that is
+/// none, any start value will do.
+pub fn seal(format: usize, line: &mut [u8]) {
     let check = check_start(&SECTORS[0]);
-    let word = sectors::check_word(&bits::part(line, 0, check));
+    let start = format::format(format).map_or(0, |format| format.check_start);
+    let word = sectors::check_word(start, &bits::part(line, 0, check));
     line[check / 8..check / 8 + 2].copy_from_slice(&word.to_be_bytes());
 }

@@ -90,6 +90,7 @@ pub const COUNT: Fields = &["refused", "count"];
 pub const LENGTHS: Fields = &[
     "refused",
     "number",
+    "check_start",
     "sync_bits",
     "information_bits",
     "dummy_bits",

@@ -19,6 +19,9 @@ const MARKS: usize = 1;
 const TABLES: [usize; 2] = [2, 3];
 const NUMBER: usize = 4;
 
+/// Rounds of the suite.
+const ROUNDS: u32 = 4;
+
 /// The numbers of a line's tables, and its segment.
 fn of_line(call: &Call) -> ([u64; 2], u64) {
     let line = call.lent[0].bytes();
@@ -134,9 +137,13 @@ fn the_suite_tries_what_it_says() {
         }
         outcome
     });
-    tables::run(&mut bench, &mut Maker::new(45)).expect("nothing is wrong");
+    // some of it comes by chance, and in one round not surely
+    let mut maker = Maker::new(45);
+    for _ in 0..ROUNDS {
+        tables::run(&mut bench, &mut maker).expect("nothing is wrong");
+    }
     let (adds, entries, calls) = asked.take();
-    for (format, blocks) in [(1, 5), (2, 4)] {
+    for (format, blocks) in [(1, 5), (2, 4), (3, 5)] {
         for number in 1..=blocks {
             let foreign = if number >= 3 { &[14][..] } else { &[] };
             for refused in [0, 5, 6, 7].iter().chain(foreign) {
@@ -164,7 +171,7 @@ fn the_suite_tries_what_it_says() {
         }
     }
     // the quick run of the gate stays quick
-    assert!(calls < 20_000, "{calls} calls");
+    assert!(calls < 20_000 * ROUNDS, "{calls} calls");
 }
 
 /// What is said of a library that does as the right one, but for what is done

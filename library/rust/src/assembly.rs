@@ -116,9 +116,9 @@ pub fn revision(format: u8, assembly: Assembly, number: u8, block: &[u8]) -> Res
 
 /// A point of a finished mapping block, row and column 0 to 24, five degrees
 /// apart: rows from 60 north to 60 south, columns from 45 to 165 east in
-/// [`S_VISSR`](crate::S_VISSR) and from 80 east to 160 west in
-/// [`HIRID`](crate::HIRID). Refused with FORMAT, STATE, RANGE, SHORT_INPUT,
-/// UNFINISHED.
+/// [`S_VISSR`](crate::S_VISSR) and [`S_VISSR_ONES`](crate::S_VISSR_ONES) and
+/// from 80 east to 160 west in [`HIRID`](crate::HIRID). Refused with FORMAT,
+/// STATE, RANGE, SHORT_INPUT, UNFINISHED.
 pub fn mapping(
     format: u8,
     assembly: Assembly,

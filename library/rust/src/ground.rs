@@ -3,11 +3,13 @@
 use crate::raw;
 use crate::refusal::{unless, Refusal};
 
-/// A format: the bits of the three parts of one line on the wire, and the
-/// bytes of them all.
+/// A format: what the check of its sectors starts from, the bits of the three
+/// parts of one line on the wire, and the bytes of them all.
 #[derive(Clone, Copy, Debug, PartialEq, Eq)]
 pub struct Format {
     pub number: u8,
+    /// 0, in format 3 0xFFFF.
+    pub check_start: u16,
     pub sync_bits: usize,
     pub information_bits: usize,
     pub dummy_bits: usize,
@@ -39,7 +41,8 @@ pub fn version() -> u32 {
     unsafe { raw::hansobrik_version() }
 }
 
-/// The lengths of a format. Refused with FORMAT.
+/// The lengths of a format, and the start value of its check. Refused with
+/// FORMAT.
 pub fn format(format: u8) -> Result<Format, Refusal> {
     // SAFETY: numbers only.
     let a = unsafe { raw::hansobrik_format(format) };
@@ -47,6 +50,7 @@ pub fn format(format: u8) -> Result<Format, Refusal> {
         a.refused,
         Format {
             number: a.number,
+            check_start: a.check_start,
             sync_bits: a.sync_bits,
             information_bits: a.information_bits,
             dummy_bits: a.dummy_bits,

@@ -1,9 +1,17 @@
-//! Weather-satellite lines, S-VISSR 2.0 (format 1) and HiRID (format 2).
+//! Weather-satellite lines, S-VISSR 2.0 (format 1, and format 3 from a card
+//! whose check starts from ones) and HiRID (format 2).
 //!
 //! Safe Rust calls of the proved library, one for each call of `hansobrik.h`,
 //! named as there without the prefix. A call that can refuse gives a `Result`;
 //! a refused call changes no buffer, no state and no assembly. Its refusals are
 //! named, as constants of [`Refusal`], in the order in which they are tested.
+//!
+//! Format 3 is format 1 from a card that presets its check register with
+//! sixteen ones: in each sector the first 16 bits are inverted before the
+//! remainder is taken. Nothing else differs, so lines of either card are found
+//! in both formats, but no sector is accepted in both: where one card's
+//! recording is read as the other's, every good sector is refused with
+//! REMAINDER.
 //!
 //! Every call is safe from any thread on buffers of its own: the library has
 //! no memory of its own and keeps nothing between calls. The crate is `no_std`.

@@ -57,6 +57,8 @@ pub struct Assembly {
 pub struct FormatAnswer {
     pub refused: u8,
     pub number: u8,
+    /// What the check of its sectors starts from.
+    pub check_start: u16,
     pub sync_bits: usize,
     pub information_bits: usize,
     pub dummy_bits: usize,

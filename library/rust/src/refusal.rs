@@ -26,7 +26,7 @@ impl Refusal {
     /// What the header's `hansobrik_refusal_words` says of the number.
     pub fn words(self) -> &'static str {
         match self {
-            Refusal::FORMAT => "the format is neither 1 nor 2",
+            Refusal::FORMAT => "the format is none of 1, 2, 3",
             Refusal::SETTING => "the setting of a reader is above 6",
             Refusal::STATE => "the reader's record, the register or the marks are impossible",
             Refusal::NUMBER => {

@@ -1,8 +1,10 @@
 //! The sizes and numbers of the header.
 
-/// The two formats.
+/// The three formats.
 pub const S_VISSR: u8 = 1;
 pub const HIRID: u8 = 2;
+/// S-VISSR from a card that presets its check register with ones.
+pub const S_VISSR_ONES: u8 = 3;
 
 /// Wrong bits of the tail, of its 64, that a reader may be told to bear.
 pub const LARGEST_SETTING: u8 = 6;
@@ -13,8 +15,11 @@ pub const LINE_BYTES: usize = 44_356;
 pub const WIRE_BYTES_1: usize = 45_606;
 /// The same, format 2.
 pub const WIRE_BYTES_2: usize = 49_500;
+/// And format 3, as in format 1.
+pub const WIRE_BYTES_3: usize = 45_606;
 pub const SYNC_BYTES_1: usize = 1_250;
 pub const SYNC_BYTES_2: usize = 2_500;
+pub const SYNC_BYTES_3: usize = 1_250;
 
 /// 1 DOC, 2 to 4 IR1-3 upper, 5 to 8 VIS1-4, 9 to 11 IR1-3 lower, 12 IR4.
 pub const SECTORS: u8 = 12;
@@ -38,7 +43,7 @@ pub const MAPPING: u8 = 1;
 pub const ORBIT: u8 = 2;
 pub const MANAM: u8 = 3;
 pub const CALIBRATION_1: u8 = 4;
-/// Format 1 only.
+/// Not in format 2.
 pub const CALIBRATION_2: u8 = 5;
 /// and their sizes.
 pub const MAPPING_BYTES: usize = 2_500;

@@ -43,7 +43,7 @@ fn leaves<B: Clone + PartialEq, T>(
 
 #[test]
 fn a_line_comes_back_byte_by_byte() {
-    for format in [S_VISSR, HIRID] {
+    for format in [S_VISSR, HIRID, S_VISSR_ONES] {
         let sent = line_of_zeros(format);
         let mut wire = vec![0; WIRE_BYTES_2];
         let count = write_line(format, &sent, &mut wire).unwrap();
@@ -81,7 +81,7 @@ fn recording(format: u8) -> (Vec<Vec<u8>>, Vec<u8>) {
 
 #[test]
 fn a_reader_keeps_its_record_in_every_cut() {
-    for format in [S_VISSR, HIRID] {
+    for format in [S_VISSR, HIRID, S_VISSR_ONES] {
         let (sent, wire) = recording(format);
         for length in [1, 7, 4_096, WIRE_BYTES_1 - 1, wire.len()] {
             let mut reader = Reader::fresh(format, 0);
@@ -117,8 +117,10 @@ fn a_refused_piece_can_be_taken_again() {
     let mut lines = 0;
     reader.take(&wire, &mut line, |_| lines += 1).unwrap();
     assert_eq!(lines, sent.len());
-    let refused = Reader::fresh(3, 0).take(&wire, &mut line, never);
-    assert_eq!(refused, Err(Refusal::FORMAT));
+    for format in [0, S_VISSR_ONES + 1] {
+        let refused = Reader::fresh(format, 0).take(&wire, &mut line, never);
+        assert_eq!(refused, Err(Refusal::FORMAT));
+    }
     let refused = Reader::fresh(S_VISSR, LARGEST_SETTING + 1).take(&[], &mut line, never);
     assert_eq!(refused, Err(Refusal::SETTING));
 }
@@ -127,7 +129,7 @@ fn a_refused_piece_can_be_taken_again() {
 /// reader that bears as many gives every line, one that bears one less none.
 #[test]
 fn a_reader_bears_as_many_wrong_bits_as_its_setting_says() {
-    for format in [S_VISSR, HIRID] {
+    for format in [S_VISSR, HIRID, S_VISSR_ONES] {
         let lengths = hansobrik::format(format).unwrap();
         let (sent, mut wire) = recording(format);
         for setting in 0..=LARGEST_SETTING {
@@ -146,6 +148,56 @@ fn a_reader_bears_as_many_wrong_bits_as_its_setting_says() {
             for line in wire.chunks_mut(lengths.bytes) {
                 line[lengths.sync_bits / 8 - 8 + usize::from(setting)] ^= 1;
             }
+        }
+    }
+}
+
+/// What a format says of itself, as the papers have it.
+#[test]
+fn three_formats() {
+    for (number, check_start, sync_bits, dummy_bits, bytes) in [
+        (S_VISSR, 0, 10_000, 0, WIRE_BYTES_1),
+        (HIRID, 0, 20_000, 21_152, WIRE_BYTES_2),
+        (S_VISSR_ONES, 0xFFFF, 10_000, 0, WIRE_BYTES_3),
+    ] {
+        let expected = Format {
+            number,
+            check_start,
+            sync_bits,
+            information_bits: 354_848,
+            dummy_bits,
+            bytes,
+        };
+        assert_eq!(hansobrik::format(number), Ok(expected));
+        let mut sync = vec![0; WIRE_BYTES_2];
+        assert_eq!(put_sync(number, &mut sync), Ok(sync_bits / 8));
+    }
+    for number in [0, 4, 255] {
+        assert_eq!(hansobrik::format(number), Err(Refusal::FORMAT));
+    }
+}
+
+/// A DOC sector of zeros has the check word 9063 where the check starts from
+/// ones, and 0000 elsewhere; each is refused where the other is accepted. So is
+/// every sector of a line of the other card.
+#[test]
+fn a_check_that_starts_from_ones() {
+    for (written, word) in [(S_VISSR, 0x0000), (HIRID, 0x0000), (S_VISSR_ONES, 0x9063)] {
+        let line = line_of_zeros(written);
+        assert_eq!(u16::from_be_bytes([line[2293], line[2294]]), word);
+        for asked in [S_VISSR, HIRID, S_VISSR_ONES] {
+            let same = (written == S_VISSR_ONES) == (asked == S_VISSR_ONES);
+            let one = if same {
+                Ok(())
+            } else {
+                Err(Refusal::REMAINDER)
+            };
+            assert_eq!(answers(asked, &line), Ok([one; 12]));
+            let mut visible = vec![0; STRIP_BYTES];
+            assert_eq!(strip(asked, &line, &mut visible), Ok([one; 4]));
+            let mut wide = vec![0; IR_PIXELS];
+            assert_eq!(joined(asked, &line, 1, &mut wide), one);
+            assert_eq!(scan_mode(asked, &line).map(|_| ()), one);
         }
     }
 }
@@ -278,8 +330,9 @@ fn longitudes_go_by_the_format() {
         let point = |column| mapping(format, finished(0, 0), &block, 0, column).unwrap();
         Vec::from_iter((0..25).map(|column| point(column).longitude))
     };
-    let svissr = columns(S_VISSR);
-    assert_eq!(svissr, Vec::from_iter((45..=165).step_by(5)));
+    for format in [S_VISSR, S_VISSR_ONES] {
+        assert_eq!(columns(format), Vec::from_iter((45..=165).step_by(5)));
+    }
     let hirid = columns(HIRID);
     assert_eq!(hirid[..21], Vec::from_iter((80..=180).step_by(5)));
     assert_eq!(hirid[21..], [-175, -170, -165, -160]);
@@ -354,8 +407,9 @@ fn a_refused_read_leaves_state_and_line() {
         ..fresh()
     };
     for (format, setting, state, length, number) in [
-        (3, 0, kept, LINE_BYTES, Refusal::FORMAT),
-        (3, 7, impossible, 0, Refusal::FORMAT),
+        (4, 0, kept, LINE_BYTES, Refusal::FORMAT),
+        (0, 7, impossible, 0, Refusal::FORMAT),
+        (3, 7, impossible, 0, Refusal::SETTING),
         (1, 7, kept, LINE_BYTES, Refusal::SETTING),
         (1, 255, impossible, 0, Refusal::SETTING),
         (1, 6, impossible, 0, Refusal::STATE),
@@ -487,6 +541,7 @@ fn refused_segments_leave_assembly_and_block() {
     assert_eq!(elements(1, one, &block), Err(Refusal::UNFINISHED));
     assert_eq!(revision(1, one, 5, &block), Err(Refusal::UNFINISHED));
     assert_eq!(revision(2, one, 5, &block), Err(Refusal::NUMBER));
+    assert_eq!(revision(3, finished(7, 0), 5, &block), Ok(7));
     let all = finished(1, 2);
     assert_eq!(albedo(1, all, &block, 1, 64), Err(Refusal::RANGE));
     assert_eq!(temperature_f64(2, one, &block, 5, 0), Err(Refusal::NUMBER));

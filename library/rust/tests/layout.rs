@@ -28,7 +28,8 @@ fn records_have_the_layout_of_the_header() {
     });
     laid_out!(Assembly, 8, 4, { marks: 0, calibration: 4, manam: 6 });
     laid_out!(FormatAnswer, 40, 8, {
-        refused: 0, number: 1, sync_bits: 8, information_bits: 16, dummy_bits: 24, bytes: 32,
+        refused: 0, number: 1, check_start: 2, sync_bits: 8, information_bits: 16, dummy_bits: 24,
+        bytes: 32,
     });
     laid_out!(StepAnswer, 4, 2, { refused: 0, bit: 1, register: 2 });
     laid_out!(CountAnswer, 16, 8, { refused: 0, count: 8 });

@@ -29,7 +29,7 @@ pub fn by_bits(format: u8, line: &[u8], sector: u8) -> Result<usize, Refusal> {
 
 /// The place of a sector's first filler bit; the filler stands at its end.
 fn start(format: u8, line: &[u8], sector: u8) -> Result<usize, Refusal> {
-    if !matches!(format, 1 | 2) {
+    if !matches!(format, 1..=3) {
         return Err(refusal::FORMAT);
     }
     if !matches!(sector, 1..=12) {
@@ -105,7 +105,7 @@ mod tests {
     #[test]
     fn as_the_second_decoder() {
         let mut random = Random::new(1);
-        for format in [1, 2] {
+        for format in [1, 2, 3] {
             let line = random.bytes(LINE_BYTES);
             for sector in 1..=12 {
                 let expected = sectors::filler(format.into(), &line, sector.into());
@@ -132,7 +132,7 @@ mod tests {
         let line = [0; LINE_BYTES];
         let short = &line[1..];
         for f in ALL {
-            for format in [0, 3, 255] {
+            for format in [0, 4, 255] {
                 assert_eq!(f(format, short, 0), Err(1));
             }
             for sector in [0, 13, 255] {

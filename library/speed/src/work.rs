@@ -187,7 +187,7 @@ mod tests {
 
     #[test]
     fn the_library_makes_the_pattern() {
-        for format in [1, 2] {
+        for format in [1, 2, 3] {
             let input = Input::new(format, 9);
             let line = second::pattern::line(format.into(), 9, 0).unwrap();
             assert!(line == input.line);

@@ -1,10 +1,10 @@
 //! The second decoder as a program.
 //!
 //! - `second signal N FORMAT [W [T]]` writes a recording of N lines of the test
-//!   pattern, with W wrong bits in each tail and new tables from line T on;
-//!   `second::pattern` says exactly what it is.
+//!   pattern in format 1, 2 or 3, with W wrong bits in each tail and new tables
+//!   from line T on; `second::pattern` says exactly what it is.
 //! - `second listing [FORMAT [SETTING]] < recording` lists the lines of a
-//!   recording. The setting is 0 where it is left out.
+//!   recording. The format is 1 and the setting 0 where they are left out.
 //! - `second fields [FORMAT [SETTING]] < recording` writes the documentation
 //!   fields of every line, then what the assembled blocks say; see
 //!   `second::fields`.
@@ -25,7 +25,8 @@ const USAGE: &str = "usage: second signal N FORMAT [W [T]]
        second listing [FORMAT [SETTING]] < recording
        second fields [FORMAT [SETTING]] < recording
        second vectors
-       second zeros";
+       second zeros
+FORMAT is 1 (S-VISSR), 2 (HiRID) or 3 (S-VISSR, the check from ones)";
 
 type Outcome = Result<(), Box<dyn Error>>;
 

@@ -85,6 +85,11 @@ pub const EDITS: &[Edit] = &[
             "uint64_t position",
         ],
     ),
+    // it stands in a gap: without it the answer is as long as with it
+    texts(
+        &[(HEADER, "uint16_t check_start; /*", "/*")],
+        &["hansobrik_format_answer has 6 fields", "7 by the source"],
+    ),
     texts(
         &[(
             HEADER,
@@ -478,6 +483,26 @@ pub const EDITS: &[Edit] = &[
         &["HANSOBRIK_WIRE_BYTES_2 is 49501, but 49500", FORMATS],
     ),
     texts(
+        &[(
+            HEADER,
+            "HANSOBRIK_S_VISSR_ONES = 3",
+            "HANSOBRIK_S_VISSR_ONES = 4",
+        )],
+        &["HANSOBRIK_S_VISSR_ONES is 4, but 3", FORMATS],
+    ),
+    texts(
+        &[(
+            FORMATS,
+            "SYNC_BITS_3: usize = Self::SYNC_BITS_1;",
+            "SYNC_BITS_3: usize = Self::SYNC_BITS_2;",
+        )],
+        &["HANSOBRIK_SYNC_BYTES_3 is 1250, but 2500", FORMATS],
+    ),
+    texts(
+        &[(SIZES, "pub const WIRE_BYTES_3: usize = 45_606;", "")],
+        &[SIZES, "WIRE_BYTES_3 is missing"],
+    ),
+    texts(
         &[(HEADER, "HANSOBRIK_SYNC_BYTES_1 = 1250,", "")],
         &[HEADER, "HANSOBRIK_SYNC_BYTES_1 is missing"],
     ),
@@ -602,6 +627,13 @@ pub const EDITS: &[Edit] = &[
         &[
             "by rustc:",
             "the offset of raw::Assembly.manam is 8, but 6 by the source",
+        ],
+    ),
+    compilers(
+        &[(RAW, "pub check_start: u16,", "pub check_start: u32,")],
+        &[
+            "by rustc:",
+            "the offset of raw::FormatAnswer.check_start is 4, but 2 by the source",
         ],
     ),
     compilers(

@@ -54,6 +54,7 @@ pub fn lengths(a: FormatAnswer) -> Vec<u64> {
     vec![
         a.refused.into(),
         a.number.into(),
+        a.check_start.into(),
         a.sync_bits as u64,
         a.information_bits as u64,
         a.dummy_bits as u64,

@@ -77,6 +77,7 @@ fn of_numbers(name: Name, n: &[u64]) -> Answer {
         Name::Format => safe::format(n[0] as u8).map(|f| {
             vec![
                 f.number.into(),
+                f.check_start.into(),
                 f.sync_bits as u64,
                 f.information_bits as u64,
                 f.dummy_bits as u64,

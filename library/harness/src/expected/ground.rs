@@ -25,6 +25,7 @@ pub fn format(n: &[u64]) -> Answer {
     let format = format_of(n[0] as usize)?;
     Ok(vec![
         n[0],
+        format.check_start.into(),
         format.sync_bits as u64,
         INFORMATION_BITS as u64,
         format.dummy_bits as u64,

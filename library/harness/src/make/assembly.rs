@@ -77,7 +77,7 @@ impl Maker {
         let first = if faults.has(14) { MANAM } else { MAPPING };
         let (format, home, number) = self.numbered(&[1, 2, 3, 4, 5], first, faults);
         let (short_line, short_block) = self.short_ones(faults.has(2));
-        let (line, segment, tables) = self.line_with_segment(faults, short_line);
+        let (line, segment, tables) = self.line_with_segment(format, faults, short_line);
         let mut block = self.block(home, short_block);
 
         let mark = 1 << segment;
@@ -208,7 +208,7 @@ impl Maker {
         };
         let mut format = match faults.has(1) {
             true => self.format(faults),
-            false => 1,
+            false => self.dice.pick(&[1, 3]),
         };
         let mut channel = self.dice.between(1, 4) as u64;
         if faults.has(4) {

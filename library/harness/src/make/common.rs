@@ -6,13 +6,15 @@ use second::format::LINE_BYTES;
 use super::Maker;
 use crate::call::Lent;
 use crate::faults::Faults;
+use crate::pool::FORMATS;
 
 impl Maker {
-    /// 1 or 2, or another number.
+    /// 1, 2 or 3, or another number.
     pub fn format(&mut self, faults: &Faults) -> u64 {
+        let formats = FORMATS.map(|format| format as u64);
         match faults.has(1) {
-            false => self.dice.pick(&[1, 2]),
-            true => self.other_than(&[1, 2]),
+            false => self.dice.pick(&formats),
+            true => self.other_than(&formats),
         }
     }
 
@@ -70,14 +72,15 @@ impl Maker {
         Lent::Bytes(bytes)
     }
 
-    /// A line whose twelve sectors are accepted.
-    pub fn good_line(&mut self) -> Vec<u8> {
-        self.pool.good(&mut self.dice)
+    /// A line whose twelve sectors are accepted in a format.
+    pub fn good_line(&mut self, format: u64) -> Vec<u8> {
+        self.pool.good(format as usize, &mut self.dice)
     }
 
-    /// A line of which anything may be true.
+    /// A line of which anything may be true, of either card.
     pub fn any_line(&mut self) -> Vec<u8> {
-        let mut line = self.good_line();
+        let format = self.dice.pick(&[1, 3]);
+        let mut line = self.good_line(format);
         match self.dice.under(8) {
             0 => self.noise(LINE_BYTES),
             1 => vec![self.dice.pick(&[0x00, 0xFF]); LINE_BYTES],
@@ -97,7 +100,7 @@ impl Maker {
     }
 
     /// A sector as it is, or with set filler bits, another ID, a wrong check
-    /// word, or several of them.
+    /// word, that of the other card, or several of them.
     pub fn damage(&mut self, line: &mut [u8], sector: usize) {
         if self.dice.one_in(3) {
             self.pool.set_filler(line, sector, &mut self.dice);
@@ -108,6 +111,17 @@ impl Maker {
         if self.dice.one_in(4) {
             self.pool.break_check(line, sector, &mut self.dice);
         }
+        if self.dice.one_in(8) {
+            self.pool.change_card(line, sector);
+        }
+    }
+
+    /// A sector whose check is wrong: damaged, or whole but from the other card.
+    pub fn wrong_check(&mut self, line: &mut [u8], sector: usize) {
+        match self.dice.one_in(4) {
+            true => self.pool.change_card(line, sector),
+            false => self.pool.break_check(line, sector, &mut self.dice),
+        }
     }
 
     /// A sector that is refused with this number, 5 or 6, or accepted.
@@ -117,7 +131,7 @@ impl Maker {
                 if self.dice.one_in(3) {
                     self.pool.break_id(line, sector, &mut self.dice);
                 }
-                self.pool.break_check(line, sector, &mut self.dice);
+                self.wrong_check(line, sector);
             }
             6 => self.pool.break_id(line, sector, &mut self.dice),
             _ => (),

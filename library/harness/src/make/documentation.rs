@@ -29,29 +29,29 @@ fn places(line: &mut [u8], first: usize, last: usize) -> &mut [u8] {
 }
 
 impl Maker {
-    /// A line whose sector DOC has the right check word for what was written
+    /// A line whose sector DOC has a format's check word for what was written
     /// into it, but for the faults 5 and 6; short with the fault 2.
-    fn sealed(&mut self, mut line: Vec<u8>, faults: &Faults, short: bool) -> Lent {
-        seal(&mut line);
+    fn sealed(&mut self, format: u64, mut line: Vec<u8>, faults: &Faults, short: bool) -> Lent {
+        seal(format as usize, &mut line);
         if faults.has(6) {
             self.pool.break_id(&mut line, 1, &mut self.dice);
         }
         if faults.has(5) {
-            self.pool.break_check(&mut line, 1, &mut self.dice);
+            self.wrong_check(&mut line, 1);
         }
         self.fitted(line, short)
     }
 
-    fn document(&mut self, name: Name, line: Vec<u8>, faults: &Faults) -> Asked {
-        let format = self.format(faults);
-        let lent = vec![self.sealed(line, faults, faults.has(2))];
+    fn document(&mut self, name: Name, format: u64, line: Vec<u8>, faults: &Faults) -> Asked {
+        let lent = vec![self.sealed(format, line, faults, faults.has(2))];
         Asked::planned(Call::new(name, &[format], lent), faults)
     }
 
     /// Scan mode and scanner select: bytes that name something, that nearly
     /// do, or any.
     pub fn named(&mut self, name: Name, faults: &Faults) -> Asked {
-        let mut line = self.good_line();
+        let format = self.format(faults);
+        let mut line = self.good_line(format);
         for place in [3, 67] {
             let any = self.dice.byte();
             let byte = self
@@ -59,17 +59,19 @@ impl Maker {
                 .pick(&[0x00, 0x0F, 0xF0, 0xFF, 0x01, 0x7F, any, any]);
             places(&mut line, place, place)[0] = byte;
         }
-        self.document(name, line, faults)
+        self.document(name, format, line, faults)
     }
 
     pub fn line_numbers(&mut self, faults: &Faults) -> Asked {
-        let mut line = self.good_line();
+        let format = self.format(faults);
+        let mut line = self.good_line(format);
         self.digits(places(&mut line, 7, 12), faults.has(7));
-        self.document(Name::LineNumbers, line, faults)
+        self.document(Name::LineNumbers, format, line, faults)
     }
 
     pub fn date(&mut self, faults: &Faults) -> Asked {
-        let mut line = self.good_line();
+        let format = self.format(faults);
+        let mut line = self.good_line(format);
         self.digits(places(&mut line, 20, 21), false);
         for (place, least, largest) in PARTS {
             let any = self.dice.between(least.into(), largest.into()) as u8;
@@ -79,7 +81,7 @@ impl Maker {
         if faults.has(7) {
             self.spoil_date(&mut line);
         }
-        self.document(Name::Date, line, faults)
+        self.document(Name::Date, format, line, faults)
     }
 
     /// A digit over 9 anywhere, or a part just outside its range.
@@ -118,9 +120,10 @@ impl Maker {
     }
 
     pub fn sub_commutation(&mut self, faults: &Faults) -> Asked {
-        let mut line = self.good_line();
+        let format = self.format(faults);
+        let mut line = self.good_line(format);
         self.put_segment(&mut line, faults.has(7));
-        self.document(Name::SubCommutation, line, faults)
+        self.document(Name::SubCommutation, format, line, faults)
     }
 
     /// A place where n bytes are in the sector, or are not: at its edge, far
@@ -157,7 +160,7 @@ impl Maker {
             place = place.max(3); // a wrong digit in the ID would be fault 6
         }
 
-        let mut line = self.good_line();
+        let mut line = self.good_line(format);
         if n <= 8 && !wrong_place {
             let (first, last) = (place.max(3) as usize, (place + n - 1) as usize);
             if first <= last {
@@ -168,7 +171,7 @@ impl Maker {
                 }
             }
         }
-        let lent = vec![self.sealed(line, faults, short_line)];
+        let lent = vec![self.sealed(format, line, faults, short_line)];
         let mut numbers = vec![format, place, n];
         numbers.extend(m);
         Asked::planned(Call::new(name, &numbers, lent), faults)
@@ -177,14 +180,20 @@ impl Maker {
     /// A line with a segment and with the numbers of its tables, for the
     /// assembly. Gives the segment and the numbers too: the calibration table
     /// ID and the MANAM revision.
-    pub fn line_with_segment(&mut self, faults: &Faults, short: bool) -> (Lent, usize, [u16; 2]) {
-        let mut line = self.good_line();
+    pub fn line_with_segment(
+        &mut self,
+        format: u64,
+        faults: &Faults,
+        short: bool,
+    ) -> (Lent, usize, [u16; 2]) {
+        let mut line = self.good_line(format);
         let segment = self.put_segment(&mut line, faults.has(7));
         let tables = [self.table_number(), self.table_number()];
         for (place, number) in [28, 30].into_iter().zip(tables) {
             places(&mut line, place, place + 1).copy_from_slice(&number.to_be_bytes());
         }
-        (self.sealed(line, faults, short), segment, tables)
+        let line = self.sealed(format, line, faults, short);
+        (line, segment, tables)
     }
 
     /// A number of two bytes.

@@ -7,6 +7,7 @@ use super::record::Record;
 use super::{Asked, Maker};
 use crate::call::{Call, Lent};
 use crate::faults::Faults;
+use crate::pool::FORMATS;
 use crate::rows::Name;
 
 /// Bytes of a line on the wire; of a format that is none, any number will do.
@@ -28,7 +29,7 @@ impl Maker {
 
     /// A whole line and some bytes behind it, or before.
     fn whole_line(&mut self) -> Vec<u8> {
-        let format = self.dice.pick(&[1, 2]);
+        let format = self.dice.pick(&FORMATS);
         let line = self.any_line();
         let wire = pattern::on_the_wire(format, &line).expect("a whole line");
         let (before, behind) = (self.short_piece(), self.short_piece());

@@ -23,10 +23,10 @@ impl Maker {
         }
     }
 
-    /// A line whose sector `home` is as the faults say; the others may be as
-    /// they like.
-    fn line_for(&mut self, home: u64, faults: &Faults) -> Lent {
-        let mut line = self.good_line();
+    /// A line whose sector `home` is as the faults say, in a format; the others
+    /// may be as they like.
+    fn line_for(&mut self, format: u64, home: u64, faults: &Faults) -> Lent {
+        let mut line = self.good_line(format);
         if self.dice.one_in(3) {
             for other in (1..=12).filter(|&other| other != home as usize) {
                 self.damage(&mut line, other);
@@ -40,13 +40,13 @@ impl Maker {
     pub fn accepted(&mut self, faults: &Faults) -> Asked {
         let format = self.format(faults);
         let (home, sector) = self.sector(&ALL, faults);
-        let lent = vec![self.line_for(home, faults)];
+        let lent = vec![self.line_for(format, home, faults)];
         Asked::planned(Call::new(Name::Accepted, &[format, sector], lent), faults)
     }
 
     pub fn answers(&mut self, faults: &Faults) -> Asked {
         let format = self.format(faults);
-        let mut line = self.good_line();
+        let mut line = self.good_line(format);
         for sector in 1..=12 {
             let number = self.dice.pick(&[0, 0, 5, 6]);
             self.judged(&mut line, sector, number);
@@ -67,7 +67,7 @@ impl Maker {
         let format = self.format(faults);
         let (home, sector) = self.sector(&ALL, faults);
         let lent = vec![
-            self.line_for(home, faults),
+            self.line_for(format, home, faults),
             self.out(layout(home).data_bytes(), faults.has(3)),
         ];
         Asked::planned(Call::new(Name::Data, &[format, sector], lent), faults)
@@ -77,7 +77,7 @@ impl Maker {
         let format = self.format(faults);
         let (home, sector) = self.sector(&NARROW, faults);
         let lent = vec![
-            self.line_for(home, faults),
+            self.line_for(format, home, faults),
             self.out(layout(home).count, faults.has(3)),
         ];
         Asked::planned(Call::new(Name::Pixels, &[format, sector], lent), faults)
@@ -87,7 +87,7 @@ impl Maker {
         let format = self.format(faults);
         let (home, sector) = self.sector(&WIDE, faults);
         let lent = vec![
-            self.line_for(home, faults),
+            self.line_for(format, home, faults),
             self.out_wide(IR_PIXELS, faults.has(3)),
         ];
         Asked::planned(Call::new(Name::PixelsWide, &[format, sector], lent), faults)
@@ -109,7 +109,7 @@ impl Maker {
             (_, true) => (wished, self.dice.pick(&[0, 5, 6])),
             (_, false) => (0, wished),
         };
-        let mut line = self.good_line();
+        let mut line = self.good_line(format);
         self.judged(&mut line, home as usize + 1, upper);
         self.judged(&mut line, home as usize + 8, lower);
         let lent = vec![
@@ -127,7 +127,7 @@ impl Maker {
 
     pub fn strip(&mut self, faults: &Faults) -> Asked {
         let format = self.format(faults);
-        let mut line = self.good_line();
+        let mut line = self.good_line(format);
         for sector in 5..=8 {
             let number = self.dice.pick(&[0, 0, 5, 6]);
             self.judged(&mut line, sector, number);

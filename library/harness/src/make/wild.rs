@@ -47,7 +47,7 @@ impl Maker {
     fn wild_number(&mut self, what: &str, bits: u32) -> u64 {
         let any = self.dice.of_any_length(bits);
         match (what, bits) {
-            ("format", _) => self.dice.pick(&[1, 1, 1, 2, 2, 2, 0, 3, any]),
+            ("format", _) => self.dice.pick(&[1, 1, 1, 2, 2, 3, 3, 3, 0, 4, any]),
             ("setting", _) => {
                 let served = self.dice.between(0, 6) as u64;
                 self.dice.pick(&[0, 0, 6, served, served, served, 7, any])

@@ -57,7 +57,7 @@ impl Assembling {
     }
 
     pub fn served(&self) -> bool {
-        self.format == 1 || self.number != CALIBRATION_2
+        self.format != 2 || self.number != CALIBRATION_2
     }
 
     pub fn finished(&self) -> bool {

@@ -19,7 +19,7 @@ use crate::dice::Dice;
 use crate::make::Maker;
 use crate::rows::Name;
 
-const BOTH: [u64; 2] = [1, 2];
+const FORMATS: [u64; 3] = [1, 2, 3];
 
 /// What all bytes around a filler are.
 const AROUND: [u8; 2] = [0x00, 0xFF];
@@ -72,7 +72,7 @@ impl Filler<'_> {
         self.whole()?;
         self.neighbours()?;
         for place in self.places() {
-            let format = self.dice.pick(&BOTH);
+            let format = self.dice.pick(&FORMATS);
             self.one_bit(place, &[format])?;
         }
         self.all_pieces()?;
@@ -82,13 +82,13 @@ impl Filler<'_> {
     /// Every place, and every count of set bits in each piece alone.
     pub fn every(&mut self) -> Result<(), Difference> {
         for place in 0..FILLER_BITS {
-            self.one_bit(place, &BOTH)?;
+            self.one_bit(place, &FORMATS)?;
         }
         for piece in pieces(self.sector) {
             for count in 0..=piece.len() {
                 let mut filler = [0; FILLER_BITS];
                 set_some(&mut filler[piece.clone()], count, self.dice);
-                let (format, around) = (self.dice.pick(&BOTH), self.dice.pick(&AROUND));
+                let (format, around) = (self.dice.pick(&FORMATS), self.dice.pick(&AROUND));
                 self.counted(&self.line(&filler, around), count, &[format])?;
             }
         }
@@ -145,7 +145,7 @@ impl Filler<'_> {
             for behind in [0, 1, 7, 8, 9] {
                 let mut line = self.line(&[bit; FILLER_BITS], around);
                 line.resize(LINE_BYTES + behind, 0xFF);
-                self.counted(&line, count, &[1, 2, 1, 2])?;
+                self.counted(&line, count, &[1, 2, 3, 1])?;
             }
         }
         Ok(())
@@ -158,7 +158,7 @@ impl Filler<'_> {
             for (bit, others, count) in [(1, 0x00, 0), (0, 0xFF, FILLER_BITS)] {
                 let mut line = vec![others; LINE_BYTES + 1];
                 set_bit(&mut line, place, bit);
-                self.counted(&line, count, &BOTH)?;
+                self.counted(&line, count, &FORMATS)?;
             }
         }
         Ok(())
@@ -199,7 +199,7 @@ impl Filler<'_> {
                 all += count;
             }
             let around = AROUND[turn % 2];
-            self.counted(&self.line(&filler, around), all, &BOTH)?;
+            self.counted(&self.line(&filler, around), all, &FORMATS)?;
         }
         Ok(())
     }
@@ -212,7 +212,7 @@ impl Filler<'_> {
                 for count in [self.dice.between(0, FILLER_BITS), few, FILLER_BITS - few] {
                     let mut filler = [0; FILLER_BITS];
                     set_some(&mut filler, count, self.dice);
-                    self.counted(&self.line(&filler, around), count, &BOTH)?;
+                    self.counted(&self.line(&filler, around), count, &FORMATS)?;
                 }
             }
         }

@@ -4,6 +4,7 @@ mod assembling;
 pub mod blocks;
 pub mod fillers;
 pub mod grid;
+pub mod ones;
 mod reading;
 mod recordings;
 mod sets;
@@ -24,6 +25,7 @@ pub fn run(bench: &mut Bench, maker: &mut Maker, rounds: u64) -> Result<(), Diff
         tails::run(bench, maker)?;
         blocks::run(bench, maker)?;
         tables::run(bench, maker)?;
+        ones::run(bench, maker)?;
         fillers::run(bench, maker, round == 1)?;
     }
     Ok(())

@@ -7,6 +7,7 @@ use super::reading::Reading;
 use crate::bench::{Bench, Difference};
 use crate::call::{Call, Lent};
 use crate::make::Maker;
+use crate::pool::FORMATS;
 use crate::rows::Name;
 
 /// Setting 0, or any that is served.
@@ -51,7 +52,7 @@ fn play_cut(
 /// A line written, and read again: it is the line, at every setting.
 fn round_trip(bench: &mut Bench, maker: &mut Maker, format: usize) -> Result<(), Difference> {
     let line = maker.any_line();
-    let wire = vec![0; second::format::format(format).expect("1 or 2").wire_bytes];
+    let wire = vec![0; second::format::format(format).expect("a format").wire_bytes];
     let lent = vec![Lent::Bytes(line.clone()), Lent::Bytes(wire)];
     let written = bench.call(Call::new(Name::WriteLine, &[format as u64], lent))?;
 
@@ -72,7 +73,7 @@ fn round_trip(bench: &mut Bench, maker: &mut Maker, format: usize) -> Result<(),
 }
 
 pub fn run(bench: &mut Bench, maker: &mut Maker) -> Result<(), Difference> {
-    for format in [1, 2] {
+    for format in FORMATS {
         for kind in 0..damage::KINDS {
             let (what, recording) = damage::make(kind, format, maker.dice.random());
             play_cut(bench, maker, format, &recording, what)?;
@@ -86,7 +87,7 @@ pub fn run(bench: &mut Bench, maker: &mut Maker) -> Result<(), Difference> {
             round_trip(bench, maker, format)?;
         }
     }
-    let format = maker.dice.pick(&[1, 2]);
+    let format = maker.dice.pick(&FORMATS);
     let by = maker.dice.under(8);
     let recording = damage::shifted(&damage::good(format, 1), by, maker.dice.random());
     let bytes: Vec<&[u8]> = recording.chunks(1).collect();

@@ -11,7 +11,7 @@ use second::sectors;
 use super::assembling::{changes, Assembling, Sent};
 use crate::bench::{Bench, Difference};
 use crate::make::Maker;
-use crate::pool::seal;
+use crate::pool::{seal, FORMATS};
 
 /// The numbers of the pattern's tables, before they change and afterwards.
 const TABLES: [[u16; 2]; 2] = [[2_101, 731], [2_102, 732]];
@@ -30,7 +30,7 @@ fn sent(maker: &mut Maker, format: usize, k: u64, changed: bool, tables: [u16; 2
     let mut doc = pattern::doc(format, k, changed.into());
     doc[at(28)..at(30)].copy_from_slice(&tables[0].to_be_bytes());
     doc[at(30)..at(32)].copy_from_slice(&tables[1].to_be_bytes());
-    let mut line = maker.good_line();
+    let mut line = maker.good_line(format as u64);
     sectors::put_data(format, &mut line, 1, &doc).expect("it fits");
     Sent {
         line,
@@ -94,20 +94,20 @@ fn between(maker: &mut Maker, format: usize, k: u64, changed: bool, kind: Betwee
     };
     let mut sent = sent(maker, format, k, changed, tables);
     if let Damaged(number) = kind {
-        damage(maker, &mut sent, number);
+        damage(maker, format, &mut sent, number);
     }
     sent
 }
 
-fn damage(maker: &mut Maker, sent: &mut Sent, number: u8) {
+fn damage(maker: &mut Maker, format: usize, sent: &mut Sent, number: u8) {
     let line = &mut sent.line;
     sent.damage = number;
     match number {
-        5 => maker.pool.break_check(line, 1, &mut maker.dice),
+        5 => maker.wrong_check(line, 1),
         6 => maker.pool.break_id(line, 1, &mut maker.dice),
         _ => {
             maker.put_segment(line, true);
-            seal(line);
+            seal(format, line);
         }
     }
 }
@@ -204,10 +204,11 @@ fn bits(bench: &mut Bench, maker: &mut Maker, format: usize) -> Result<(), Diffe
 }
 
 pub fn run(bench: &mut Bench, maker: &mut Maker) -> Result<(), Difference> {
-    for format in [1, 2] {
+    for format in FORMATS {
         bits(bench, maker, format)?;
         recording(bench, maker, format, FEW)?;
     }
-    // every entry in format 1, which alone has calibration-2
-    recording(bench, maker, 1, 1)
+    // every entry in a format that has calibration-2
+    let format = maker.dice.pick(&[1, 3]);
+    recording(bench, maker, format, 1)
 }

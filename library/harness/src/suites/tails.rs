@@ -17,6 +17,7 @@ use second::scramble::{sync, TAIL_BITS};
 use super::reading::Reading;
 use crate::bench::{Bench, Difference};
 use crate::make::Maker;
+use crate::pool::FORMATS;
 
 /// One more than the largest setting.
 const NOT_SERVED: usize = 7;
@@ -28,7 +29,7 @@ const MOST_WRONG: usize = 9;
 const LINES: usize = 2;
 
 /// The longest piece of a recording, one after the other.
-const LONGEST: [usize; 5] = [200, 1_000, 10_000, 60_000, 100_000];
+const LONGEST: [usize; 5] = [400, 1_000, 10_000, 60_000, 100_000];
 
 /// The last bits of a SYNC with so many wrong ones in the tail, and soon the
 /// tail itself, which loses where the first one counts; cut into two at every
@@ -40,7 +41,7 @@ fn cuts(
     length: usize,
     wrong: usize,
 ) -> Result<(), Difference> {
-    let format = maker.dice.pick(&[1, 2]);
+    let format = maker.dice.pick(&FORMATS);
     let mut all = sync(length);
     for place in places(wrong, TAIL_BITS, maker.dice.random()) {
         all[length - 1 - place] ^= 1;
@@ -120,7 +121,7 @@ impl Recordings<'_> {
         }
         let found = self.play(&received, longest)?;
         let found = found.into_iter().map(|line| line.bytes);
-        let sent = (0..LINES as u64).map(|k| pattern::line(format, k, 0).expect("format 1 or 2"));
+        let sent = (0..LINES as u64).map(|k| pattern::line(format, k, 0).expect("a format"));
         match found.eq(sent) {
             true => Ok(()),
             false => Err(Difference(format!(
@@ -155,9 +156,9 @@ pub fn at(setting: usize, bench: &mut Bench, maker: &mut Maker) -> Result<(), Di
     for missing in 1..=NOT_SERVED {
         cuts(bench, maker, setting, TAIL_BITS - missing, 0)?;
     }
-    let mut longest = LONGEST.iter().cycle().skip(4 * setting).copied();
+    let mut longest = LONGEST.iter().cycle().skip(6 * setting).copied();
     let mut longest = || longest.next().expect("they go on for ever");
-    for format in [1, 2] {
+    for format in FORMATS {
         let (bench, maker) = (&mut *bench, &mut *maker);
         let mut recordings = Recordings {
             bench,

@@ -116,8 +116,8 @@ fn a_long_run_tries_every_place_and_each_piece_alone() {
             }
         }
     }
-    // each place set and clear, between zeros and ones, in both formats
-    assert_eq!(single.len(), 2_048 * 2 * 2 * 2);
+    // each place set and clear, between zeros and ones, in three formats
+    assert_eq!(single.len(), 2_048 * 2 * 2 * 3);
     // a head of 2 bits, 31 words and a rest of 62
     assert_eq!(counts(9, &asked, true), 3 + 31 * 65 + 63);
 }
