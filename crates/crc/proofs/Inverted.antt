@@ -6,9 +6,8 @@ use native.Mathlib.Nat.{mul-assoc, pow-suc}
 use native.Mathlib.Omega.{arith}
 use lib.ListN.{take, drop}
 use lib.Pow.{pow-pos, pow-mono}
-use Rattle.bits.specs.Bits.{through, Below}
-use Rattle.bits.proofs.Below.{below-append, below-drop, below-take}
-use Rattle.crc.specs.Remainder.{next, preset, remainderOf, inverted}
+use Rattle.bits.specs.Bits.{Below}
+use Rattle.crc.specs.Remainder.{preset, remainderOf, inverted}
 use Rattle.crc.specs.Division.{IsRemainder}
 use Rattle.crc.proofs.Division.{remainder-is}
 use Rattle.crc.proofs.Preset.{preset-below, preset-past}

@@ -2,10 +2,9 @@
 -- sixteen bits (`only-start`). A step loses nothing, so what differs behind the first sixteen bits differs at the end. Assumes nothing.
 use mathlib.Core.Path.{_≡_, refl, sym, ap, ap₂, _∙_, subst}
 use mathlib.Core.List.{List, [], _∷_, _++_}
-use Prim.Native.Nat.{ℕ, zero, suc, _+_, _*_, _/_, _%_, _^_, _≤_, _<_}
+use Prim.Native.Nat.{ℕ, _+_, _*_, _/_, _%_, _^_, _≤_, _<_}
 use native.Mathlib.Nat.{mod-lt}
 use native.Mathlib.Omega.{arith}
-use lib.Dec.{lit≤}
 use lib.Pow.{pow-pos}
 use lib.ListN.{length, take, drop, replicate, take-append-drop}
 use lib.Bits.{bitXor, xor-comm, xor-zero-l, xor-lt}

@@ -1,7 +1,5 @@
 -- FORMAT 3 IS FORMAT 1 BUT FOR THE CHECK: its answers where no sector is checked, call by call. Assumes nothing.
-use mathlib.Core.List.{List}
-use mathlib.Core.Path.{_≡_, refl}
-use Prim.Native.Nat.{ℕ}
+use mathlib.Core.Path.{refl}
 use Rattle.refusals.specs.Refusals.{when}
 use Rattle.formats.specs.Formats.{unknown, formatRefusal, namedBy}
 use Rattle.sync.specs.Put.{putSyncRefusal, putSyncAnswer, putSyncLeft}

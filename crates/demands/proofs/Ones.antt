@@ -1,9 +1,9 @@
 -- FORMAT 3 BESIDE P3 TO P5: its words, and 5 for the word 0000, on the rules and on the real calls. Assumes nothing.
-use mathlib.Core.List.{List, [], _∷_, _++_, append-assoc}
+use mathlib.Core.List.{List, _++_, append-assoc}
 use mathlib.Core.Path.{_≡_, refl, sym, ap, ap₂, subst, _∙_}
-use Prim.Native.Nat.{ℕ, zero, suc, _+_, _*_, _≤_, _<_}
+use Prim.Native.Nat.{ℕ, zero, suc, _+_, _≤_, _<_}
 use native.Mathlib.Omega.{arith}
-use borrow.Author.Tests.{le-ltb}
+use borrow.Author.Tests.{le-ltb, ne-eqb}
 use lib.Dec.{lit≤}
 use lib.ListN.{length, take, drop, replicate, length-append, length-replicate}
 use lib.Seq.{take-all, take-take}
@@ -11,12 +11,12 @@ use Rattle.refusals.specs.Refusals.{first, when, outside, outsideOf, shortOf}
 use Rattle.refusals.proofs.Words.{first-none, kept-none}
 use Rattle.formats.specs.Formats.{lineBytes, unknown, formatRefusal, checkStart}
 use Rattle.formats.proofs.Which.{start-1, start-2, start-3}
-use Rattle.bits.specs.Bits.{digits, packedOf, bitsOf, stretch}
+use Rattle.bits.specs.Bits.{digits, bitsOf, stretch}
 use Rattle.bits.proofs.Digits.{length-digits}
 use Rattle.bits.proofs.Stretches.{piece, stretch-append}
 use Rattle.bits.proofs.Zeros.{packed-zeros}
 use Rattle.crc.specs.Division.{IsRemainder}
-use Rattle.crc.specs.Remainder.{remainderOf, inverted, checkWordOf}
+use Rattle.crc.specs.Remainder.{remainderOf, inverted}
 use Rattle.crc.proofs.Inverted.{remainder-ones}
 use Rattle.sectors.specs.Asked.{askedOf, lineRefusal}
 use Rattle.sectors.specs.declared.layout.Layout.{Layout}
@@ -103,6 +103,8 @@ put-word line full =
 pub ones : Ones
 ones =
     record {
+      as-before = λ n other. rw (ne-eqb n 3 other) refl;
+      was-refused = refl;
       start-1 = start-1;
       start-2 = start-2;
       start-3 = start-3;

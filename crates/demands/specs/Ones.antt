@@ -1,15 +1,17 @@
 -- Format 3, whose check starts from ones: what it says of the sectors of P3 to P5, that it is format 1 in all else, that demands 2 and
 -- 3 cover it, and what comes of one card's recording when it is read in a format of the other. Assumes nothing.
+use mathlib.Core.Bool.{cond}
 use mathlib.Core.List.{List, [], _∷_, _++_, map}
 use mathlib.Core.Path.{_≡_}
 use Prim.Native.Nat.{ℕ, _+_, _≤_, _<_}
+use lib.Dec.{eqb}
 use lib.ListN.{length, getD, take, replicate}
 use Rattle.bits.specs.Bits.{digits, bitsOf, stretch, inARow, Below}
 use Rattle.crc.specs.Division.{IsRemainder}
 use Rattle.crc.specs.Remainder.{remainderOf, inverted}
-use Rattle.formats.specs.Formats.{svissrOnes, formatOf, checkStart, lineBytes}
-use Rattle.formats.specs.declared.FormatAnswer.the-variants.{Is}
-use Rattle.sectors.specs.declared.check.Twelve.{Twelve}
+use Rattle.formats.specs.Formats.{svissr, hirid, svissrOnes, formatOf, checkStart, lineBytes}
+use Rattle.formats.specs.declared.FormatAnswer.{FormatAnswer}
+use Rattle.formats.specs.declared.FormatAnswer.the-variants.{Is, Refused}
 use Rattle.sectors.specs.Layout.{layoutOf, dataAt}
 use Rattle.sectors.specs.Sector.{coveredOf, answerOf}
 use Rattle.sectors.specs.Calls.{acceptedAnswer, answersAnswer, fillerAnswer}
@@ -31,8 +33,15 @@ use Rattle.demands.specs.Edges.{docWord}
 use Rattle.demands.specs.Demand3.{Demand3}
 use Rattle.demands.specs.RoundTrip.{PlainLines, recordingOf, Recording, ComeBack}
 
+-- the format of a number as it was, with two formats; no call is defined by it
+abbrev pub earlierFormatOf : ℕ → FormatAnswer
+earlierFormatOf n = cond (eqb n 1) (Is svissr) (cond (eqb n 2) (Is hirid) (Refused 1))
+
 -- FORMAT 3 BESIDE P3 TO P5
 pub record Ones : Type 0 where
+  -- formats 1 and 2 are as they were, and so is every other number's refusal; 3 was refused
+  pub as-before : (n : ℕ) → (n ≡ 3 → ⊥) → formatOf n ≡ earlierFormatOf n
+  pub was-refused : earlierFormatOf 3 ≡ Refused 1
   -- formats 1 and 2 keep zero, format 3 has sixteen ones
   pub start-1 : checkStart 1 ≡ 0
   pub start-2 : checkStart 2 ≡ 0

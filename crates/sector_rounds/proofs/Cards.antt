@@ -1,8 +1,8 @@
 -- NO SECTOR IS ACCEPTED FROM TWO START VALUES: what is not refused with 5 from the one is refused with 5 from the other. So a line of
 -- one card, read in a format of the other, shows twelve 5s. Assumes nothing.
 use mathlib.Core.List.{List}
-use mathlib.Core.Path.{_≡_, refl, sym, ap, ap₂, _∙_}
-use Prim.Native.Nat.{ℕ, suc, _+_, _-_, _*_, _%_, _^_, _≤_, _<_}
+use mathlib.Core.Path.{_≡_, sym, ap, _∙_}
+use Prim.Native.Nat.{ℕ, _+_, _-_, _%_, _^_, _≤_, _<_}
 use native.Mathlib.Nat.{mod-eq-of-lt}
 use native.Mathlib.Omega.{arith}
 use lib.ListN.{length, getD, replicate, length-replicate, getD-replicate}
@@ -16,7 +16,6 @@ use Rattle.bits.proofs.Bytes.{length-bits, bits-below}
 use Rattle.bits.proofs.Stretches.{stretch-length}
 use Rattle.crc.proofs.Starts.{only-start}
 use Rattle.sectors.specs.declared.layout.Layout.{Layout}
-use Rattle.sectors.specs.declared.check.Twelve.{Twelve}
 use Rattle.sectors.specs.Asked.{lineRefusal}
 use Rattle.sectors.specs.Layout.{layoutOf, coveredBits, Sound}
 use Rattle.sectors.specs.Sector.{coveredOf, answerOf, answersOf}

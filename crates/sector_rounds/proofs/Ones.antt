@@ -1,12 +1,11 @@
 -- THE SECTORS OF P3 TO P5 WHERE THE CHECK STARTS FROM ONES: a DOC sector of zeros has the check word 9063, with its last data bit set
 -- 8042, with the one before set B021; and with the word 0000 it is refused with 5. Assumes nothing.
-use mathlib.Core.Path.{_≡_, refl, sym, ap, ap₂, _∙_}
+use mathlib.Core.Path.{_≡_, refl, sym, ap, _∙_}
 use mathlib.Core.List.{List, [], _∷_, _++_, append-assoc}
-use Prim.Native.Nat.{ℕ, zero, suc, _+_, _%_, _^_, _≤_}
+use Prim.Native.Nat.{ℕ, zero, suc, _+_}
 use native.Mathlib.Omega.{arith}
 use lib.Dec.{lit<}
 use lib.ListN.{length, replicate, replicate-append-replicate, length-replicate}
-use lib.Bits.{bitXor}
 use Rattle.bits.specs.Bits.{digits, through, stretch, Below}
 use Rattle.bits.proofs.Below.{below-append, below-replicate}
 use Rattle.bits.proofs.Through.{through-append}
