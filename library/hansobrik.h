@@ -11,11 +11,11 @@
  * - Buffers lent to one call must not overlap, and one that is written must not be read or written by anybody else meanwhile.
  * - Every call is safe from any thread on buffers of its own: the library has no memory of its own, keeps nothing between
  *   calls and takes no lock. Two calls at once may read the same buffer. What a caller keeps (a reader's record, a register,
- *   an assembly's record) belongs to one recording, and one thread at a time hands it on.
+ *   an assembly's record, a report) belongs to one recording, and one thread at a time hands it on.
  * - `refused`, or the number that comes back alone, is HANSOBRIK_OK or a refusal number. "Refused: FORMAT, STATE." in the
  *   comment of a call says that it gives HANSOBRIK_REFUSED_FORMAT or HANSOBRIK_REFUSED_STATE and no other, tested in this
- *   order. A refused call changes no buffer; its answer has 0 in every other field, but the reader's record, a register and
- *   an assembly's record come back as they were handed in.
+ *   order. A refused call changes no buffer; its answer has 0 in every other field, but the reader's record, a register, an
+ *   assembly's record and a report come back as they were handed in, of two reports the first.
  * - Bytes of a buffer behind a call's result are kept.
  * - Format 3 is format 1 from a card that presets its check register with sixteen ones: in each sector the first 16 bits are
  *   inverted before the remainder is taken. Nothing else differs, so lines of either card are found in both formats, but no
@@ -23,13 +23,13 @@
  *   REMAINDER.
  * - Numbers have the width that is declared: C cuts a wider one without a word, so compile with -Wconversion.
  *
- * Widths: the reader's record and an assembly's have fields of fixed width and 24 and 8 bytes without a gap on every machine,
- * so one that was stored is read on another machine of the same byte order. Counts and lengths are size_t and follow the
- * machine. The proofs are over sizes of 64 bits and the archive is made for such machines: where size_t has 4 bytes this header
- * does not compile.
+ * Widths: the reader's record, an assembly's and a report have fields of fixed width and 24, 8 and 488 bytes without a gap on
+ * every machine, so one that was stored is read on another machine of the same byte order. Counts and lengths are size_t and
+ * follow the machine. The proofs are over sizes of 64 bits and the archive is made for such machines: where size_t has 4 bytes
+ * this header does not compile.
  *
  * C11 or C++11, or later. Link with libhansobrik.a (`pkg-config --cflags --libs hansobrik` where it is installed). The library
- * takes no memory; of the C library it needs memset alone.
+ * takes no memory; of the C library it needs memcpy and memset alone.
  */
 #ifndef HANSOBRIK_H
 #define HANSOBRIK_H
@@ -48,10 +48,10 @@ _Static_assert(sizeof(size_t) == 8, "hansobrik: the library is made for machines
 /* ---- the version of this header ---- */
 
 #define HANSOBRIK_VERSION_MAJOR 0
-#define HANSOBRIK_VERSION_MINOR 6
+#define HANSOBRIK_VERSION_MINOR 7
 #define HANSOBRIK_VERSION_PATCH 0
 #define HANSOBRIK_VERSION (HANSOBRIK_VERSION_MAJOR * 10000 + HANSOBRIK_VERSION_MINOR * 100 + HANSOBRIK_VERSION_PATCH)
-#define HANSOBRIK_VERSION_TEXT "0.6.0"
+#define HANSOBRIK_VERSION_TEXT "0.7.0"
 
 /* ---- refusal numbers, in the order in which they are tested ---- */
 
@@ -59,7 +59,8 @@ enum {
     HANSOBRIK_OK = 0,                   /* the call was served */
     HANSOBRIK_REFUSED_FORMAT = 1,       /* the format is none of 1, 2, 3 */
     HANSOBRIK_REFUSED_SETTING = 13,     /* the setting of a reader is above 6 */
-    HANSOBRIK_REFUSED_STATE = 12,       /* the reader's record, the register or the marks are impossible */
+    HANSOBRIK_REFUSED_STATE = 12,       /* the reader's record, the register, the marks or a report are impossible */
+    HANSOBRIK_REFUSED_FULL = 15,        /* the report would have over 100,000 lines */
     HANSOBRIK_REFUSED_NUMBER = 4,       /* a sector, channel or block number that the call does not serve;
                                            calibration-2 in format 2 */
     HANSOBRIK_REFUSED_RANGE = 10,       /* level, grid point, number size or decimal places out of range;
@@ -108,6 +109,8 @@ enum {
     HANSOBRIK_CALIBRATION_1_BYTES = 6400,
     HANSOBRIK_CALIBRATION_2_BYTES = 25600,
     HANSOBRIK_SEGMENTS = 25,
+    HANSOBRIK_CHANNELS = 4,            /* IR1 to IR4 */
+    HANSOBRIK_REPORT_LINES = 100000,   /* the most lines of a report */
     HANSOBRIK_ALL_MARKS = 0x1FFFFFF,   /* the marks of a finished block */
     HANSOBRIK_FIFTEEN_ONES = 0x7FFF    /* the scrambling register before the first information bit */
 };
@@ -153,6 +156,31 @@ typedef struct {
     uint16_t calibration;  /* calibration table ID, sector bytes 28-29 of the line that brought the first segment */
     uint16_t manam;        /* MANAM revision, bytes 30-31 of that line */
 } hansobrik_assembly;
+
+/* A sector over all lines of a report. */
+typedef struct {
+    uint64_t accepted;     /* lines in which it was accepted, */
+    uint64_t remainder;    /* refused with REMAINDER, */
+    uint64_t id;           /* and refused with ID */
+    uint64_t filler;       /* its filler bits that were set, in lines that refused it too */
+} hansobrik_sector_tally;
+
+/* The ten-bit pixels of an infrared channel over all lines of a report: IR1 to IR3 of the lines in which the upper and the
+ * lower sector were both accepted, IR4 of those in which its sector was. */
+typedef struct {
+    uint64_t count;
+    uint64_t sum;
+    uint16_t least;
+    uint16_t largest;
+    uint32_t present;      /* 1: least and largest hold. 0: there are no pixels. No other mark is possible */
+} hansobrik_channel_tally;
+
+/* One record over all lines of a pass. Every field 0 is that of no line. A caller may look at all of it. */
+typedef struct {
+    uint64_t lines;
+    hansobrik_sector_tally sectors[12];   /* sector n at n - 1 */
+    hansobrik_channel_tally channels[4];  /* IR1 to IR4, channel n at n - 1 */
+} hansobrik_pass_report;
 
 typedef struct {
     uint8_t refused;
@@ -289,6 +317,11 @@ typedef struct {
     double perigee;
     double anomaly;
 } hansobrik_orbit_answer;
+
+typedef struct {
+    uint8_t refused;
+    hansobrik_pass_report report; /* for the next call */
+} hansobrik_report_answer;
 
 /* ---- the version of the archive ---- */
 
@@ -480,6 +513,27 @@ hansobrik_level_float_answer hansobrik_temperature_f64(uint8_t format, hansobrik
 hansobrik_orbit_answer hansobrik_elements(uint8_t format, hansobrik_assembly assembly, const uint8_t *block,
                                           size_t block_count);
 
+/* ---- the report of a pass ---- */
+
+/* The report of no line: every field 0. Never refused. */
+hansobrik_pass_report hansobrik_empty_report(void);
+
+/* A report with one line more: of the twelve sectors what hansobrik_answers says, of their filler what hansobrik_filler counts,
+ * and the pixels that hansobrik_joined and hansobrik_pixels_wide give. A line whose sectors are all refused counts too.
+ *
+ * A report is impossible, STATE, where it has over REPORT_LINES lines, where accepted, remainder and id of a sector are not its
+ * lines together, where filler, count or sum are above what so many lines have (2,048 bits in a sector, 2,291 pixels in a
+ * channel, 1,023 in a pixel), or where `present` is neither 0 nor 1. Nothing else is asked of it: with the mark 0 least and
+ * largest may hold anything, and both are 0 in the answer.
+ *
+ * Needs in line: LINE_BYTES. Refused: FORMAT, STATE, FULL, SHORT_INPUT. */
+hansobrik_report_answer hansobrik_with_line(uint8_t format, hansobrik_pass_report report, const uint8_t *line,
+                                            size_t line_count);
+
+/* The report of two passes one after the other: the two added, with the lesser least and the greater largest of those that are
+ * marked present. The first is tested for STATE, then the second; then both for FULL together. Refused: STATE, FULL. */
+hansobrik_report_answer hansobrik_together(hansobrik_pass_report first, hansobrik_pass_report second);
+
 /* ---- helpers, which stand here whole: plain C, tested and not proved ---- */
 
 /* A refusal number in words. */
@@ -490,7 +544,8 @@ hansobrik_refusal_words(uint8_t number)
     case HANSOBRIK_OK: return "the call was served";
     case HANSOBRIK_REFUSED_FORMAT: return "the format is none of 1, 2, 3";
     case HANSOBRIK_REFUSED_SETTING: return "the setting of a reader is above 6";
-    case HANSOBRIK_REFUSED_STATE: return "the reader's record, the register or the marks are impossible";
+    case HANSOBRIK_REFUSED_STATE: return "the reader's record, the register, the marks or a report are impossible";
+    case HANSOBRIK_REFUSED_FULL: return "the report would have over 100,000 lines";
     case HANSOBRIK_REFUSED_NUMBER:
         return "a sector, channel or block number that the call does not serve; calibration-2 in format 2";
     case HANSOBRIK_REFUSED_RANGE:

@@ -19,7 +19,7 @@
 #include <string.h>
 #include <sys/mman.h>
 
-enum { CANARY = 64, PAGE = 65536, MOST_NUMBERS = 16, MOST_BUFFERS = 2, MOST_FIELDS = 16 };
+enum { CANARY = 64, PAGE = 65536, MOST_NUMBERS = 138, MOST_BUFFERS = 2, MOST_FIELDS = 70 };
 
 /* The calls in the header's order, and one that is no call. */
 enum {
@@ -31,6 +31,7 @@ enum {
     SCAN_MODE, SCANNER_SELECT, LINE_NUMBERS, DATE, SUB_COMMUTATION,
     INTEGER_FIELD, BCD_FIELD, REAL_FIELD, F64_FIELD,
     FRESH_ASSEMBLY, ADD_SEGMENT, REVISION, MAPPING, ALBEDO, ALBEDO_F64, TEMPERATURE, TEMPERATURE_F64, ELEMENTS,
+    EMPTY_REPORT, WITH_LINE, TOGETHER,
     SPOIL
 };
 
@@ -215,6 +216,41 @@ static hansobrik_assembly assembly(size_t i)
     return a;
 }
 
+/* The numbers of a report: its lines, four of each sector, five of each channel. */
+enum { OF_SECTOR = 4, OF_CHANNEL = 5, OF_REPORT = 1 + OF_SECTOR * HANSOBRIK_SECTORS + OF_CHANNEL * HANSOBRIK_CHANNELS };
+
+static hansobrik_sector_tally sector_tally(size_t i)
+{
+    hansobrik_sector_tally t;
+    t.accepted = numbers[i];
+    t.remainder = numbers[i + 1];
+    t.id = numbers[i + 2];
+    t.filler = numbers[i + 3];
+    return t;
+}
+
+static hansobrik_channel_tally channel_tally(size_t i)
+{
+    hansobrik_channel_tally t;
+    t.count = numbers[i];
+    t.sum = numbers[i + 1];
+    t.least = u16(i + 2);
+    t.largest = u16(i + 3);
+    t.present = u32(i + 4);
+    return t;
+}
+
+static hansobrik_pass_report report(size_t i)
+{
+    hansobrik_pass_report r;
+    r.lines = numbers[i++];
+    for (size_t s = 0; s < HANSOBRIK_SECTORS; s++, i += OF_SECTOR)
+        r.sectors[s] = sector_tally(i);
+    for (size_t c = 0; c < HANSOBRIK_CHANNELS; c++, i += OF_CHANNEL)
+        r.channels[c] = channel_tally(i);
+    return r;
+}
+
 /* ---- what it answers: every field of each kind of answer ---- */
 
 static void say(uint64_t field)
@@ -259,6 +295,24 @@ static void say_assembly(hansobrik_assembly a)
     say(a.marks);
     say(a.calibration);
     say(a.manam);
+}
+
+static void say_report(hansobrik_pass_report r)
+{
+    say(r.lines);
+    for (size_t s = 0; s < HANSOBRIK_SECTORS; s++) {
+        say(r.sectors[s].accepted);
+        say(r.sectors[s].remainder);
+        say(r.sectors[s].id);
+        say(r.sectors[s].filler);
+    }
+    for (size_t c = 0; c < HANSOBRIK_CHANNELS; c++) {
+        say(r.channels[c].count);
+        say(r.channels[c].sum);
+        say(r.channels[c].least);
+        say(r.channels[c].largest);
+        say(r.channels[c].present);
+    }
 }
 
 static void say_format(hansobrik_format_answer a)
@@ -419,6 +473,12 @@ static void say_orbit(hansobrik_orbit_answer a)
     say_double(a.anomaly);
 }
 
+static void say_report_answer(hansobrik_report_answer a)
+{
+    say(a.refused);
+    say_report(a.report);
+}
+
 /* No call of the library: turns over a bit of the byte that lies numbers[1] bytes behind the start of buffer numbers[0], or
  * before it, as a wrong call would. The last buffer is lent to be read only. The harness asks for it to see that harm is
  * seen. */
@@ -486,6 +546,10 @@ static void call(uint64_t which, size_t buffer_count)
         say_level_float(hansobrik_temperature_f64(u8(0), assembly(1), seen(0), count(0), u8(4), u16(5)));
         break;
     case ELEMENTS: say_orbit(hansobrik_elements(u8(0), assembly(1), seen(0), count(0))); break;
+
+    case EMPTY_REPORT: say_report(hansobrik_empty_report()); break;
+    case WITH_LINE: say_report_answer(hansobrik_with_line(u8(0), report(1), seen(0), count(0))); break;
+    case TOGETHER: say_report_answer(hansobrik_together(report(0), report(OF_REPORT))); break;
 
     case SPOIL: spoil(buffer_count); break;
     default: stop("no such call");

@@ -36,15 +36,15 @@ static void version(void)
     expect(strcmp(text, HANSOBRIK_VERSION_TEXT) == 0, "the version's text is the archive's number", number);
 }
 
-/* 0 to 14 have words of their own, and all the others the same ones. */
+/* 0 to 15 have words of their own, and all the others the same ones. */
 static void words(void)
 {
     const char *unknown = hansobrik_refusal_words(255);
     for (unsigned number = 0; number <= 255; number++) {
         const char *said = hansobrik_refusal_words((uint8_t)number);
         expect(said[0] != '\0', "a refusal has words", number);
-        expect((strcmp(said, unknown) == 0) == (number > 14), "0 and the fourteen refusals have words, no other has", number);
-        for (unsigned other = 0; other < number && number <= 14; other++)
+        expect((strcmp(said, unknown) == 0) == (number > 15), "0 and the fifteen refusals have words, no other has", number);
+        for (unsigned other = 0; other < number && number <= 15; other++)
             expect(strcmp(said, hansobrik_refusal_words((uint8_t)other)) != 0, "two refusals have other words", number);
     }
 }
@@ -209,6 +209,32 @@ static void block_sizes(uint8_t f)
     }
 }
 
+/* A report counts up to the lines that the header names, and no further; its sectors and channels are as many as it names. The
+ * line is one of zeros, all of whose sectors are accepted. */
+static void report_sizes(uint8_t f)
+{
+    hansobrik_pass_report none = hansobrik_empty_report();
+    expect(sizeof none.sectors / sizeof none.sectors[0] == HANSOBRIK_SECTORS, "a report has every sector", f);
+    expect(sizeof none.channels / sizeof none.channels[0] == HANSOBRIK_CHANNELS, "a report has every channel", f);
+    hansobrik_report_answer one = hansobrik_with_line(f, none, line, sizeof line);
+    needs(one.refused, hansobrik_with_line(f, none, line, sizeof line - 1).refused, HANSOBRIK_REFUSED_SHORT_INPUT, "with_line",
+          f);
+    expect(one.report.lines == 1, "a line is counted", f);
+    for (unsigned s = 0; s < HANSOBRIK_SECTORS; s++)
+        expect(one.report.sectors[s].accepted == 1 && one.report.sectors[s].filler == 0, "a sector is counted", s + 1);
+    for (unsigned c = 0; c < HANSOBRIK_CHANNELS; c++)
+        expect(one.report.channels[c].count == HANSOBRIK_IR_PIXELS && one.report.channels[c].present == 1,
+               "a channel is counted", c + 1);
+    hansobrik_pass_report last = none;
+    last.lines = HANSOBRIK_REPORT_LINES - 1;
+    for (unsigned s = 0; s < HANSOBRIK_SECTORS; s++)
+        last.sectors[s].accepted = last.lines;
+    hansobrik_report_answer full = hansobrik_with_line(f, last, line, sizeof line);
+    needs(full.refused, hansobrik_with_line(f, full.report, line, sizeof line).refused, HANSOBRIK_REFUSED_FULL, "with_line", f);
+    needs(hansobrik_together(last, one.report).refused, hansobrik_together(full.report, one.report).refused,
+          HANSOBRIK_REFUSED_FULL, "together", f);
+}
+
 /* Lines that differ, written one after the other, and all of it some bits late, so that no line begins or ends at a byte. Each
  * tail, the last 64 bits of SYNC, has so many wrong bits. */
 static void make_recording(uint8_t format, unsigned late, uint8_t wrong)
@@ -327,6 +353,7 @@ int main(void)
     for (uint8_t format = HANSOBRIK_S_VISSR; format <= HANSOBRIK_S_VISSR_ONES; format++) {
         sector_sizes(format);
         block_sizes(format);
+        report_sizes(format);
         make_recording(format, format + 1u, 0);
         for (size_t i = 0; i < sizeof lengths / sizeof lengths[0]; i++)
             in_pieces(format, 0, lengths[i]);

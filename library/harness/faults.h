@@ -14,6 +14,8 @@
 #define ADDING uint8_t f, hansobrik_assembly k, BYTES, uint8_t n, uint8_t *o, size_t d
 #define TABLES hansobrik_assembly k, hansobrik_assembly l, uint8_t n
 #define LEVEL uint8_t f, hansobrik_assembly k, BYTES, uint8_t x, uint16_t y
+#define REPORTING uint8_t f, hansobrik_pass_report r, BYTES
+#define REPORTS hansobrik_pass_report r, hansobrik_pass_report q
 
 /* For wrong fillers, what a count by words is made of: the bits up to a byte edge, words of eight bytes, the rest. */
 static inline size_t filler_end(uint8_t s)
@@ -244,7 +246,95 @@ static inline uint8_t put_from(uint16_t start, uint8_t f, uint8_t *p, size_t c, 
 #define FOR_3(other) (uint8_t)(f == HANSOBRIK_S_VISSR_ONES ? (other) : f)
 #define OWN_START (uint16_t)(f == HANSOBRIK_S_VISSR_ONES ? 0xFFFF : 0)
 
-#if FAULT == 0 /* none, but search, test of the tables and check are made here: by the right rules they are the library's */
+/* For wrong reports: two of them added, by the right rule. */
+static inline hansobrik_pass_report plus(REPORTS)
+{
+    r.lines += q.lines;
+    for (size_t i = 0; i < HANSOBRIK_SECTORS; i++) {
+        r.sectors[i].accepted += q.sectors[i].accepted;
+        r.sectors[i].remainder += q.sectors[i].remainder;
+        r.sectors[i].id += q.sectors[i].id;
+        r.sectors[i].filler += q.sectors[i].filler;
+    }
+    for (size_t i = 0; i < HANSOBRIK_CHANNELS; i++) {
+        hansobrik_channel_tally *a = &r.channels[i], *b = &q.channels[i];
+        a->count += b->count;
+        a->sum += b->sum;
+        if (!a->present && !b->present)
+            a->least = a->largest = 0;
+        if (b->present && (!a->present || b->least < a->least))
+            a->least = b->least;
+        if (b->present && (!a->present || b->largest > a->largest))
+            a->largest = b->largest;
+        a->present |= b->present;
+    }
+    return r;
+}
+
+/* The report of a line alone, out of the other calls; with upper, IR1 to IR3 have pixels where the lower sector is refused. */
+static inline hansobrik_pass_report of_one(uint8_t f, BYTES, bool upper)
+{
+    static uint16_t wide[HANSOBRIK_IR_PIXELS];
+    static uint8_t narrow[HANSOBRIK_IR_PIXELS];
+    hansobrik_pass_report one = hansobrik_empty_report();
+    hansobrik_twelve_answer t = hansobrik_answers(f, p, c);
+    one.lines = 1;
+    for (uint8_t s = 1; s <= HANSOBRIK_SECTORS; s++) {
+        hansobrik_sector_tally *a = &one.sectors[s - 1];
+        *(t.answers[s - 1] == 0 ? &a->accepted : t.answers[s - 1] == 5 ? &a->remainder : &a->id) = 1;
+        a->filler = hansobrik_filler(f, p, c, s).count;
+    }
+    for (uint8_t i = 1; i <= HANSOBRIK_CHANNELS; i++) {
+        hansobrik_channel_tally *a = &one.channels[i - 1];
+        uint8_t number = i == 4 ? hansobrik_pixels_wide(f, p, c, 12, wide, HANSOBRIK_IR_PIXELS)
+                                : hansobrik_joined(f, p, c, i, wide, HANSOBRIK_IR_PIXELS);
+        if (number != 0 && upper && i < 4) {
+            number = hansobrik_pixels(f, p, c, (uint8_t)(i + 1), narrow, HANSOBRIK_IR_PIXELS);
+            for (size_t j = 0; j < HANSOBRIK_IR_PIXELS; j++)
+                wide[j] = (uint16_t)(4 * narrow[j]);
+        }
+        for (size_t j = 0; number == 0 && j < HANSOBRIK_IR_PIXELS; j++) {
+            a->count++;
+            a->sum += wide[j];
+            if (!a->present || wide[j] < a->least)
+                a->least = wide[j];
+            if (!a->present || wide[j] > a->largest)
+                a->largest = wide[j];
+            a->present = 1;
+        }
+    }
+    return one;
+}
+
+/* with_line where the line's part is made here, and together where the sum is. */
+static inline hansobrik_report_answer by_parts(bool upper, REPORTING)
+{
+    hansobrik_report_answer a = hansobrik_with_line(f, r, p, c);
+    if (!a.refused)
+        a.report = plus(r, of_one(f, p, c, upper));
+    return a;
+}
+static inline hansobrik_report_answer by_sum(REPORTS)
+{
+    hansobrik_report_answer a = hansobrik_together(r, q);
+    if (!a.refused)
+        a.report = plus(r, q);
+    return a;
+}
+static inline hansobrik_report_answer unlike(uint8_t number, hansobrik_pass_report r)
+{
+    hansobrik_report_answer a;
+    memset(&a, 0, sizeof a);
+    a.refused = number;
+    a.report = r;
+    return a;
+}
+
+#if FAULT == 0 /* none, but search, test of the tables, check and reports are made here: by the right rules the library's own */
+static hansobrik_report_answer right_line(REPORTING) { return by_parts(false, f, r, p, c); }
+#define hansobrik_with_line right_line
+static hansobrik_report_answer right_sum(REPORTS) { return by_sum(r, q); }
+#define hansobrik_together right_sum
 static uint8_t right_accepted(CHECKING) { return by_check(OWN_START, 0, f, p, c, s); }
 #define hansobrik_accepted right_accepted
 static uint8_t right_put(PUTTING) { return put_from(OWN_START, f, p, c, s, o, d); }
@@ -921,4 +1011,249 @@ static hansobrik_format_answer wrong(uint8_t f)
     return a;
 }
 #define hansobrik_format wrong
+#elif FAULT == 102 /* 6 is tallied as 5 */
+static hansobrik_report_answer wrong(REPORTING)
+{
+    hansobrik_report_answer a = hansobrik_with_line(f, r, p, c);
+    for (size_t i = 0; !a.refused && i < HANSOBRIK_SECTORS; i++) {
+        a.report.sectors[i].remainder += a.report.sectors[i].id - r.sectors[i].id;
+        a.report.sectors[i].id = r.sectors[i].id;
+    }
+    return a;
+}
+#define hansobrik_with_line wrong
+#elif FAULT == 103 /* pixels where the upper sector alone is accepted */
+static hansobrik_report_answer wrong(REPORTING) { return by_parts(true, f, r, p, c); }
+#define hansobrik_with_line wrong
+#elif FAULT == 104 /* the least begins with 0 */
+static hansobrik_report_answer wrong(REPORTING)
+{
+    hansobrik_report_answer a = hansobrik_with_line(f, r, p, c);
+    for (size_t i = 0; !a.refused && i < HANSOBRIK_CHANNELS; i++)
+        if (!r.channels[i].present)
+            a.report.channels[i].least = 0;
+    return a;
+}
+#define hansobrik_with_line wrong
+#elif FAULT == 105 /* filler of accepted sectors alone */
+static hansobrik_report_answer wrong(REPORTING)
+{
+    hansobrik_report_answer a = hansobrik_with_line(f, r, p, c);
+    for (size_t i = 0; !a.refused && i < HANSOBRIK_SECTORS; i++)
+        if (a.report.sectors[i].accepted == r.sectors[i].accepted)
+            a.report.sectors[i].filler = r.sectors[i].filler;
+    return a;
+}
+#define hansobrik_with_line wrong
+#elif FAULT == 106 /* 15 tested before 12 */
+static hansobrik_report_answer wrong(REPORTING)
+{
+    hansobrik_report_answer a = hansobrik_with_line(f, r, p, c);
+    if (a.refused == 12 && r.lines == HANSOBRIK_REPORT_LINES)
+        a.refused = 15;
+    return a;
+}
+#define hansobrik_with_line wrong
+#elif FAULT == 107 /* 2 tested before 15 */
+static hansobrik_report_answer wrong(REPORTING)
+{
+    hansobrik_report_answer a = hansobrik_with_line(f, r, p, c);
+    if (a.refused == 15 && c < HANSOBRIK_LINE_BYTES)
+        a.refused = 2;
+    return a;
+}
+#define hansobrik_with_line wrong
+#elif FAULT == 108 /* a line more is taken at 100,000 */
+static hansobrik_report_answer wrong(REPORTING)
+{
+    hansobrik_report_answer a = hansobrik_with_line(f, r, p, c);
+    if (a.refused == 15 && c >= HANSOBRIK_LINE_BYTES)
+        a = unlike(0, plus(r, of_one(f, p, c, false)));
+    return a;
+}
+#define hansobrik_with_line wrong
+#elif FAULT == 109 /* the report is full at 99,999 */
+static hansobrik_report_answer wrong(REPORTING)
+{
+    hansobrik_report_answer a = hansobrik_with_line(f, r, p, c);
+    return a.report.lines == HANSOBRIK_REPORT_LINES && !a.refused ? unlike(15, r) : a;
+}
+#define hansobrik_with_line wrong
+#elif FAULT == 110 /* two records of 100,000 lines together are too many */
+static hansobrik_report_answer wrong(REPORTS)
+{
+    hansobrik_report_answer a = hansobrik_together(r, q);
+    return a.report.lines == HANSOBRIK_REPORT_LINES && !a.refused ? unlike(15, r) : a;
+}
+#define hansobrik_together wrong
+#elif FAULT == 111 /* two records of 100,001 lines together are not */
+static hansobrik_report_answer wrong(REPORTS)
+{
+    hansobrik_report_answer a = hansobrik_together(r, q);
+    return a.refused == 15 && r.lines + q.lines == HANSOBRIK_REPORT_LINES + 1 ? unlike(0, plus(r, q)) : a;
+}
+#define hansobrik_together wrong
+#elif FAULT == 112 /* a record of 100,001 lines is possible */
+static hansobrik_report_answer wrong(REPORTS)
+{
+    hansobrik_pass_report less = r;
+    less.lines--;
+    for (size_t i = 0; i < HANSOBRIK_SECTORS; i++)
+        less.sectors[i].accepted--;
+    hansobrik_report_answer a = hansobrik_together(r, q);
+    if (r.lines == HANSOBRIK_REPORT_LINES + 1 && q.lines == 0 && !hansobrik_together(less, q).refused)
+        a = unlike(0, plus(r, q));
+    return a;
+}
+#define hansobrik_together wrong
+#elif FAULT == 113 /* the greater least */
+static hansobrik_report_answer wrong(REPORTS)
+{
+    hansobrik_report_answer a = hansobrik_together(r, q);
+    for (size_t i = 0; !a.refused && i < HANSOBRIK_CHANNELS; i++)
+        if (r.channels[i].present && q.channels[i].present && r.channels[i].least < q.channels[i].least)
+            a.report.channels[i].least = q.channels[i].least;
+    return a;
+}
+#define hansobrik_together wrong
+#elif FAULT == 114 /* absent ones count as 0 */
+static hansobrik_report_answer wrong(REPORTS)
+{
+    hansobrik_report_answer a = hansobrik_together(r, q);
+    for (size_t i = 0; !a.refused && i < HANSOBRIK_CHANNELS; i++)
+        if (r.channels[i].present != q.channels[i].present)
+            a.report.channels[i].least = 0;
+    return a;
+}
+#define hansobrik_together wrong
+#elif FAULT == 115 /* a refused record is zeroed */
+static hansobrik_report_answer wrong(REPORTING)
+{
+    hansobrik_report_answer a = hansobrik_with_line(f, r, p, c);
+    return a.refused ? unlike(a.refused, hansobrik_empty_report()) : a;
+}
+#define hansobrik_with_line wrong
+#elif FAULT == 116 /* of two refused records the second comes back */
+static hansobrik_report_answer wrong(REPORTS)
+{
+    hansobrik_report_answer a = hansobrik_together(r, q);
+    return a.refused ? unlike(a.refused, q) : a;
+}
+#define hansobrik_together wrong
+#elif FAULT == 117 /* a refused record is tidied: least and largest beside a mark of 0 */
+static hansobrik_report_answer wrong(REPORTING)
+{
+    hansobrik_report_answer a = hansobrik_with_line(f, r, p, c);
+    for (size_t i = 0; a.refused && i < HANSOBRIK_CHANNELS; i++)
+        if (!r.channels[i].present)
+            a.report.channels[i].least = a.report.channels[i].largest = 0;
+    return a;
+}
+#define hansobrik_with_line wrong
+#elif FAULT == 118 /* a served one is not */
+static hansobrik_report_answer wrong(REPORTS)
+{
+    hansobrik_report_answer a = hansobrik_together(r, q);
+    for (size_t i = 0; !a.refused && i < HANSOBRIK_CHANNELS; i++)
+        if (!a.report.channels[i].present)
+            a.report.channels[i].least = r.channels[i].least;
+    return a;
+}
+#define hansobrik_together wrong
+#elif FAULT == 119 /* the mark 2 is served as 1 */
+static hansobrik_report_answer wrong(REPORTING)
+{
+    hansobrik_pass_report marked = r;
+    for (size_t i = 0; i < HANSOBRIK_CHANNELS; i++)
+        if (r.channels[i].present == 2)
+            marked.channels[i].present = 1;
+    hansobrik_report_answer a = hansobrik_with_line(f, marked, p, c);
+    return a.refused ? unlike(a.refused, r) : a;
+}
+#define hansobrik_with_line wrong
+#elif FAULT == 120 /* the mark's low sixteen bits alone are looked at */
+static hansobrik_report_answer wrong(REPORTS)
+{
+    hansobrik_pass_report marked = q;
+    for (size_t i = 0; i < HANSOBRIK_CHANNELS; i++)
+        marked.channels[i].present &= 0xFFFF;
+    return hansobrik_together(r, marked);
+}
+#define hansobrik_together wrong
+#elif FAULT == 121 /* counts are added modulo 2^64 */
+static hansobrik_report_answer wrong(REPORTS)
+{
+    hansobrik_pass_report even = r;
+    for (size_t i = 0; i < HANSOBRIK_SECTORS; i++) {
+        hansobrik_sector_tally *a = &even.sectors[i];
+        if (a->accepted + a->remainder + a->id == r.lines) {
+            a->accepted = r.lines;
+            a->remainder = a->id = 0;
+        }
+    }
+    uint8_t number = hansobrik_together(even, q).refused;
+    return number ? unlike(number, r) : unlike(0, plus(r, q));
+}
+#define hansobrik_together wrong
+#elif FAULT == 122 /* the second record is not tested */
+static hansobrik_report_answer wrong(REPORTS)
+{
+    hansobrik_report_answer a = hansobrik_together(r, q);
+    bool full = r.lines > HANSOBRIK_REPORT_LINES || q.lines > HANSOBRIK_REPORT_LINES - r.lines;
+    if (a.refused == 12 && !full && !hansobrik_together(r, hansobrik_empty_report()).refused)
+        a = unlike(0, plus(r, q));
+    return a;
+}
+#define hansobrik_together wrong
+#elif FAULT == 123 /* pixels that are marked absent make a record impossible */
+static hansobrik_report_answer wrong(REPORTS)
+{
+    hansobrik_report_answer a = hansobrik_together(r, q);
+    for (size_t i = 0; i < HANSOBRIK_CHANNELS; i++)
+        if (!a.refused && r.channels[i].count > 0 && !r.channels[i].present)
+            a = unlike(12, r);
+    return a;
+}
+#define hansobrik_together wrong
+#elif FAULT == 124 /* so does a least over ten bits */
+static hansobrik_report_answer wrong(REPORTING)
+{
+    hansobrik_report_answer a = hansobrik_with_line(f, r, p, c);
+    for (size_t i = 0; i < HANSOBRIK_CHANNELS; i++)
+        if ((!a.refused || a.refused == 15) && r.channels[i].present && r.channels[i].least > 1023)
+            a = unlike(12, r);
+    return a;
+}
+#define hansobrik_with_line wrong
+#elif FAULT == 125 /* the sum is cut to 32 bits */
+static hansobrik_report_answer wrong(REPORTS)
+{
+    hansobrik_report_answer a = hansobrik_together(r, q);
+    for (size_t i = 0; !a.refused && i < HANSOBRIK_CHANNELS; i++)
+        a.report.channels[i].sum &= UINT32_MAX;
+    return a;
+}
+#define hansobrik_together wrong
+#elif FAULT == 126 /* one set filler bit more than the lines have is possible */
+static hansobrik_report_answer wrong(REPORTING)
+{
+    hansobrik_pass_report less = r;
+    for (size_t i = 0; i < HANSOBRIK_SECTORS; i++)
+        if (r.sectors[i].filler == 2048 * r.lines + 1)
+            less.sectors[i].filler--;
+    hansobrik_report_answer a = hansobrik_with_line(f, less, p, c);
+    return a.refused ? unlike(a.refused, r) : unlike(0, plus(r, of_one(f, p, c, false)));
+}
+#define hansobrik_with_line wrong
+#elif FAULT == 127 /* the line's check from 0 in format 3 */
+static hansobrik_report_answer wrong(REPORTING) { return hansobrik_with_line(FOR_3(1), r, p, c); }
+#define hansobrik_with_line wrong
+#elif FAULT == 128 /* a report of no line that is not empty */
+static hansobrik_pass_report wrong(void)
+{
+    hansobrik_pass_report r = hansobrik_empty_report();
+    r.channels[3].present = 1;
+    return r;
+}
+#define hansobrik_empty_report wrong
 #endif

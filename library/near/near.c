@@ -1,4 +1,4 @@
-/* The eight calls of hansobrik.h whose answers or records cross otherwise on this processor than on x86-64, for which the
+/* The eleven calls of hansobrik.h whose answers or records cross otherwise on this processor than on x86-64, for which the
  * library's modules are lowered. `far_` are the modules' own functions under another name; the other calls are the same on both
  * and need nothing here: an assembly's record, of eight bytes, goes as one word on both. */
 #include "hansobrik.h"
@@ -8,6 +8,7 @@ void *far_format(hansobrik_format_answer *out, uint8_t format);
 void *far_fresh(hansobrik_state *out);
 void *far_elements(hansobrik_orbit_answer *out, uint8_t format, hansobrik_assembly assembly, const uint8_t *block,
                    size_t block_count);
+void *far_empty_report(hansobrik_pass_report *out);
 
 /* near.ll */
 void near_read(hansobrik_read_answer *out, uint8_t format, uint8_t setting, const hansobrik_state *state, const uint8_t *piece,
@@ -19,6 +20,9 @@ void near_albedo_f64(hansobrik_level_float_answer *out, uint8_t format, hansobri
                      size_t block_count, uint8_t channel, uint16_t level);
 void near_temperature_f64(hansobrik_level_float_answer *out, uint8_t format, hansobrik_assembly assembly, const uint8_t *block,
                           size_t block_count, uint8_t channel, uint16_t level);
+void near_with_line(hansobrik_report_answer *out, uint8_t format, const hansobrik_pass_report *report, const uint8_t *line,
+                    size_t line_count);
+void near_together(hansobrik_report_answer *out, const hansobrik_pass_report *first, const hansobrik_pass_report *second);
 
 hansobrik_format_answer hansobrik_format(uint8_t format) {
     hansobrik_format_answer out;
@@ -70,5 +74,24 @@ hansobrik_level_float_answer hansobrik_temperature_f64(uint8_t format, hansobrik
                                                        size_t block_count, uint8_t channel, uint16_t level) {
     hansobrik_level_float_answer out;
     near_temperature_f64(&out, format, assembly, block, block_count, channel, level);
+    return out;
+}
+
+hansobrik_pass_report hansobrik_empty_report(void) {
+    hansobrik_pass_report out;
+    far_empty_report(&out);
+    return out;
+}
+
+hansobrik_report_answer hansobrik_with_line(uint8_t format, hansobrik_pass_report report, const uint8_t *line,
+                                            size_t line_count) {
+    hansobrik_report_answer out;
+    near_with_line(&out, format, &report, line, line_count);
+    return out;
+}
+
+hansobrik_report_answer hansobrik_together(hansobrik_pass_report first, hansobrik_pass_report second) {
+    hansobrik_report_answer out;
+    near_together(&out, &first, &second);
     return out;
 }

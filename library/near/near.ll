@@ -1,12 +1,14 @@
-; Five calls of the library's modules, made from their answers' addresses. They are lowered for x86-64, where the reader's
-; record goes by value on the stack and a pair of a word and a double comes back in two kinds of register; only LLVM's own
-; language can ask for the same on another processor. An assembly's record, of eight bytes, is one word.
+; Seven calls of the library's modules, made from their answers' addresses. They are lowered for x86-64, where the reader's
+; record and a report go by value on the stack and a pair of a word and a double comes back in two kinds of register; only
+; LLVM's own language can ask for the same on another processor. An assembly's record, of eight bytes, is one word.
 
 declare ptr @far_read(ptr, i8, i8, ptr byval([24 x i8]) align 8, ptr, i64, ptr, i64)
 declare { i64, double } @far_read_f64(ptr, i64, i64, i8)
 declare { i64, double } @far_f64_field(i8, ptr, i64, i64, i64, i8)
 declare { i64, double } @far_albedo_f64(i8, i64, ptr, i64, i8, i16)
 declare { i64, double } @far_temperature_f64(i8, i64, ptr, i64, i8, i16)
+declare ptr @far_with_line(ptr, i8, ptr byval([488 x i8]) align 8, ptr, i64)
+declare ptr @far_together(ptr, ptr byval([488 x i8]) align 8, ptr byval([488 x i8]) align 8)
 
 define void @near_read(ptr %out, i8 %format, i8 %setting, ptr %state, ptr %piece, i64 %piece_count, ptr %line, i64 %line_count) {
   %r = call ptr @far_read(ptr %out, i8 %format, i8 %setting, ptr byval([24 x i8]) align 8 %state, ptr %piece, i64 %piece_count, ptr %line, i64 %line_count)
@@ -34,5 +36,15 @@ define void @near_albedo_f64(ptr %out, i8 %format, i64 %assembly, ptr %block, i6
 define void @near_temperature_f64(ptr %out, i8 %format, i64 %assembly, ptr %block, i64 %count, i8 %channel, i16 %level) {
   %r = call { i64, double } @far_temperature_f64(i8 %format, i64 %assembly, ptr %block, i64 %count, i8 %channel, i16 %level)
   store { i64, double } %r, ptr %out
+  ret void
+}
+
+define void @near_with_line(ptr %out, i8 %format, ptr %report, ptr %line, i64 %line_count) {
+  %r = call ptr @far_with_line(ptr %out, i8 %format, ptr byval([488 x i8]) align 8 %report, ptr %line, i64 %line_count)
+  ret void
+}
+
+define void @near_together(ptr %out, ptr %first, ptr %second) {
+  %r = call ptr @far_together(ptr %out, ptr byval([488 x i8]) align 8 %first, ptr byval([488 x i8]) align 8 %second)
   ret void
 }

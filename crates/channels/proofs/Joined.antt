@@ -20,7 +20,7 @@ length-joined (x ∷ xs) [] e = absurd (suc-ne-zero (length xs) e)
 length-joined (x ∷ xs) (y ∷ ys) e = ap suc (length-joined xs ys (suc-inj e))
 
 -- one pixel more, at the end
-joined-more : (xs ys : List ℕ) (x y : ℕ) → length xs ≡ length ys → joinedOf (xs ++ (x ∷ [])) (ys ++ (y ∷ [])) ≡ joinedOf xs ys ++ (joinedPixel x y ∷ [])
+pub joined-more : (xs ys : List ℕ) (x y : ℕ) → length xs ≡ length ys → joinedOf (xs ++ (x ∷ [])) (ys ++ (y ∷ [])) ≡ joinedOf xs ys ++ (joinedPixel x y ∷ [])
 unfolding joinedOf
 joined-more [] [] x y e = refl
 joined-more [] (v ∷ ys) x y e = absurd (suc-ne-zero (length ys) (sym e))

@@ -9,6 +9,7 @@ pub mod Simulates
 pub mod Reached
 pub mod Demand
 pub mod Cases
+pub mod Sized
 pub mod Keeps
 pub mod Advances
 pub mod Later

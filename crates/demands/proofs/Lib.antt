@@ -15,6 +15,7 @@ pub mod Iced
 pub mod Nine
 pub mod Thirteen
 pub mod Fourteen
+pub mod Fifteen
 pub mod Ones
 pub mod Cards
 pub mod AsFormat1

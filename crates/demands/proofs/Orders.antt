@@ -27,6 +27,8 @@ use Rattle.channels.specs.Join.{joinedAnswer}
 use Rattle.visible.specs.Strip.{stripRefusal}
 use Rattle.sector_frame.specs.Written.{overOf}
 use Rattle.sector_writer.specs.Calls.{inputShort, putDataAnswer, putPixelsAnswer}
+use Rattle.report_record.specs.Possible.{recordRefusal}
+use Rattle.report.specs.Calls.{fullRefusal, withLineRefusal, togetherRefusal}
 use Rattle.numbers.specs.Integers.{readIntegerRefusal}
 use Rattle.numbers.specs.Decimals.{someOver9, digitsIn, decimalOf, readBcdRefusal}
 use Rattle.numbers.specs.Reals.{noReal, formRefusal, readRealRefusal}
@@ -145,7 +147,7 @@ added-when f a line n block =
 -- ---- the list
 
 pub orders : Orders
-unfolding firstOf shortOf outsideOf stepRefusal putSyncRefusal fillerRefusal integerFieldRefusal bcdFieldRefusal realFieldRefusal readRefusal writeLineRefusal acceptedAnswer lineRefusal askedOf answerOf answersRefusal valuesRefusal dataAnswer pixelsAnswer joinedAnswer stripRefusal inputShort putDataAnswer readIntegerRefusal readBcdRefusal readRealRefusal formRefusal putRealRefusal putPixelsAnswer lineNumbersRefusal dateRefusal docPart subCommutationRefusal segmentRefusal marksRefusal blockRefusal unfinishedRefusal entryRefusal gridRefusal levelRefusal
+unfolding firstOf shortOf outsideOf withLineRefusal togetherRefusal recordRefusal fullRefusal stepRefusal putSyncRefusal fillerRefusal integerFieldRefusal bcdFieldRefusal realFieldRefusal readRefusal writeLineRefusal acceptedAnswer lineRefusal askedOf answerOf answersRefusal valuesRefusal dataAnswer pixelsAnswer joinedAnswer stripRefusal inputShort putDataAnswer readIntegerRefusal readBcdRefusal readRealRefusal formRefusal putRealRefusal putPixelsAnswer lineNumbersRefusal dateRefusal docPart subCommutationRefusal segmentRefusal marksRefusal blockRefusal unfinishedRefusal entryRefusal gridRefusal levelRefusal
 orders = record {
   format-of = λ f. record { by-table = refl; given = simp (refused-when, first-zero) refl };
   step = λ register. record { by-table = refl; given = sym (first-zero _) };
@@ -161,6 +163,8 @@ orders = record {
   strip = λ f long given. record { by-table = refl; given = simp (refused-when, first-zero) refl };
   put-pixels = λ lo hi f long n ps. record { by-table = refl; given = simp (refused-when, over-when, first-assoc, first-zero) refl };
   put-data = λ f long n given. record { by-table = refl; given = simp (refused-when, first-assoc, first-zero) refl };
+  with-line = λ f r given. record { by-table = refl; given = simp (refused-when, first-zero) refl };
+  together = λ a b. record { by-table = refl; given = simp (first-assoc, first-zero) refl };
   read-integer = λ n given. record { by-table = refl; given = simp first-zero refl };
   read-bcd = λ n bytes. record { by-table = refl; given = simp first-zero refl };
   read-real = λ n m given. record { by-table = refl; given = simp first-zero refl };

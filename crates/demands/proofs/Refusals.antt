@@ -1,7 +1,7 @@
 -- THE REFUSALS, as `specs/Refusals` lists them: an answer has the number of one chain of refusals, and what is lent goes by the same
 -- chain. Assumes nothing.
 use mathlib.Core.List.{List}
-use mathlib.Core.Path.{_≡_, refl, sym, _∙_}
+use mathlib.Core.Path.{_≡_, refl, sym, ap, _∙_}
 use Prim.Native.Nat.{ℕ}
 use Rattle.bits.specs.Bits.{bitsOf, Below}
 use Rattle.refusals.specs.Refusals.{kept}
@@ -14,6 +14,8 @@ use Rattle.channels.specs.Join.{joinedLeft}
 use Rattle.visible.specs.Strip.{stripLeft}
 use Rattle.sector_writer.specs.Calls.{putDataLeft, putPixelsLeft}
 use Rattle.writer.specs.Wire.{writeLineLeft}
+use Rattle.report.specs.declared.Reported.{Reported}
+use Rattle.report.specs.Calls.{withLineAnswer, togetherAnswer}
 use Rattle.number_writer.specs.Written.{putRealLeft}
 use Rattle.segments.specs.Assembly.{addedNumber, assemblyAfter}
 use Rattle.segments.specs.declared.Added.{Added}
@@ -41,7 +43,7 @@ assembly-stays f a line number block (Refused k) x c refused =
     (c .1 ∙ block-refused f a line number block k (sym (add-segment-is f a line number block (Refused k) (c .0))), refl)
 
 pub refusals : Refusals
-unfolding registerLeft putSyncLeft readLeft dataLeft pixelsLeft joinedLeft stripLeft putDataLeft putPixelsLeft writeLineLeft putRealLeft
+unfolding registerLeft putSyncLeft readLeft dataLeft pixelsLeft joinedLeft stripLeft putDataLeft putPixelsLeft writeLineLeft putRealLeft withLineAnswer togetherAnswer
 refusals = record {
   stepped = λ register r c h. stays _ _ register _ (r .next .bits) (c .0 .0) (c .1) h;
   step = λ register r x c h. stays _ _ register _ x (c .0 .0) (c .1) h;
@@ -59,6 +61,8 @@ refusals = record {
   strip = λ f line out r x c h. stays _ _ out _ x (c .0 .0) (c .1) h;
   put-data = λ f line sector bytes r x hw hx c h. stays-bytes _ _ _ line x hw hx (c .0) (c .1) h;
   put-pixels = λ lo hi f line sector ps r x hw hx c h. stays-bytes _ _ _ line x hw hx (c .0) (c .1) h;
+  with-line = λ f report line r e h. stays _ _ report _ (r .report) (ap (λ (x : Reported). x .refused) e) (ap (λ (x : Reported). x .report) e) h;
+  together = λ a b r e h. stays _ _ a _ (r .report) (ap (λ (x : Reported). x .refused) e) (ap (λ (x : Reported). x .report) e) h;
   put-real = λ negative magnitude n m out r x c h. stays _ _ out _ x (c .0 .0) (c .1) h;
   add-segment = assembly-stays;
 }

@@ -1,7 +1,7 @@
 -- EVERY CALL GIVES THE FIRST REFUSAL OF THE TABLE'S ORDER THAT APPLIES: one list, a row for each call that can refuse. A row names
 -- what the call tests, one test after the other with its number; that these numbers stand in the table's order is computed
 -- (`InOrder`, over the one list `order` of the crate `refusals`). Assumes nothing.
-use Prim.Native.Nat.{ℕ, _-_, _*_, _/_, _^_}
+use Prim.Native.Nat.{ℕ, _+_, _-_, _*_, _/_, _^_}
 use mathlib.Core.Bool.{Bool, false, not, _&&_, _||_}
 use mathlib.Core.List.{List, [], _∷_, _++_}
 use lib.Dec.{eqb, leb, ltb}
@@ -26,6 +26,9 @@ use Rattle.pixels.specs.Calls.{dataAnswer, pixelsAnswer}
 use Rattle.channels.specs.Join.{upperOf, lowerOf, joinedAnswer}
 use Rattle.visible.specs.Strip.{stripBytes, stripRefusal}
 use Rattle.sector_writer.specs.Calls.{putDataAnswer, putPixelsAnswer}
+use Rattle.report_record.specs.declared.Report.{Report}
+use Rattle.report_record.specs.Possible.{mostLines, possibleReport}
+use Rattle.report.specs.Calls.{withLineRefusal, togetherRefusal}
 use Rattle.numbers.specs.Integers.{readIntegerRefusal}
 use Rattle.numbers.specs.Decimals.{someOver9, digitsIn, readBcdRefusal}
 use Rattle.numbers.specs.Reals.{noReal, magnitudeBits, readRealRefusal}
@@ -120,6 +123,13 @@ unfoldable pub someOver : ℕ → List ℕ → Bool
 someOver limit [] = false
 someOver limit (p ∷ ps) = leb limit p || someOver limit ps
 
+-- a report is impossible; so many lines and so many more are over its limit
+abbrev pub reportTest : Report → Test
+reportTest r = (12, not (possibleReport r))
+
+abbrev pub fullTest : ℕ → ℕ → Test
+fullTest lines more = (15, ltb mostLines (lines + more))
+
 -- one chain
 abbrev pub Gives : ℕ → List Test → Type 0
 Gives number tests = InOrder (tests ∷ []) number
@@ -151,6 +161,10 @@ pub record Orders : Type 0 where
   pub put-pixels : (lo hi f long n : ℕ) (ps : List ℕ)
       → Gives (putPixelsAnswer lo hi f long n ps)
       (formatTest f ∷ (4, outside lo hi n) ∷ (10, someOver (2 ^ layoutOf n .width) (take (layoutOf n .count) ps)) ∷ (2, ltb long lineBytes) ∷ (2, ltb (length ps) (layoutOf n .count)) ∷ [])
+  pub with-line : (f : ℕ) (r : Report) (given : ℕ)
+      → Gives (withLineRefusal f r given) (formatTest f ∷ reportTest r ∷ fullTest (r .lines) 1 ∷ (2, ltb given lineBytes) ∷ [])
+  -- of the first, and then of the second
+  pub together : (a b : Report) → Gives (togetherRefusal a b) (reportTest a ∷ reportTest b ∷ fullTest (a .lines) (b .lines) ∷ [])
   pub read-integer : (n given : ℕ) → Gives (readIntegerRefusal n given) ((10, outside 1 4 n) ∷ (2, ltb given n) ∷ [])
   pub read-bcd : (n : ℕ) (bytes : List ℕ) → Gives (readBcdRefusal n bytes) ((10, outside 1 6 n) ∷ (2, ltb (length bytes) n) ∷ (7, someOver9 (digitsIn n bytes)) ∷ [])
   -- and in f64

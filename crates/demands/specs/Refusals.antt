@@ -13,6 +13,9 @@ use Rattle.reader.specs.Read.{refusalOf, takenBy, lineBy, stateBy}
 use Rattle.reader.specs.declared.Answer.{Answer}
 use Rattle.visible.specs.Strip.{strippedNumber}
 use Rattle.writer.specs.Wire.{writtenNumber}
+use Rattle.report_record.specs.declared.Report.{Report}
+use Rattle.report.specs.declared.Reported.{Reported}
+use Rattle.report.specs.Calls.{withLineAnswer, togetherAnswer}
 use Rattle.number_writer.specs.Written.{putNumber}
 use Rattle.blocks.specs.declared.assembly.Assembly.{Assembly}
 use Rattle.segments.specs.Assembly.{addedNumber, assemblyAfter}
@@ -54,6 +57,8 @@ pub record Refusals : Type 0 where
   pub strip : (f : ℕ) (line out : List ℕ) → Keeps strippedNumber (Strip f line out) out
   pub put-data : (f : ℕ) (line : List ℕ) (sector : ℕ) (bytes : List ℕ) → KeepsBytes (PutData f line sector bytes) line
   pub put-pixels : (lo hi f : ℕ) (line : List ℕ) (sector : ℕ) (ps : List ℕ) → KeepsBytes (PutPixels lo hi f line sector ps) line
+  pub with-line : (f : ℕ) (report : Report) (line : List ℕ) (r : Reported) → r ≡ withLineAnswer f report line → Refuses (r .refused) → r .report ≡ report
+  pub together : (a b : Report) (r : Reported) → r ≡ togetherAnswer a b → Refuses (r .refused) → r .report ≡ a
   pub put-real : (negative : Bool) (magnitude n m : ℕ) (out : List ℕ) → Keeps putNumber (PutReal negative magnitude n m out) out
   pub add-segment : (f : ℕ) (a : Assembly) (line : List ℕ) (number : ℕ) (block : List ℕ) (r : Added) (x : List ℕ)
       → AddSegment f a line number block r x → Refuses (addedNumber r) → (x ≡ block) × (assemblyAfter a r ≡ a)

@@ -13,6 +13,10 @@ use Rattle.reader_record.specs.Records.{freshState}
 use Rattle.reader_record.specs.declared.State.{State}
 use Rattle.sectors.specs.Calls.{acceptedAnswer, answersAnswer, FillerOk}
 use Rattle.sectors.specs.declared.check.Twelve.{Twelve}
+use Rattle.report_record.specs.declared.Report.{Report}
+use Rattle.report_record.specs.Report.{emptyReport}
+use Rattle.report.specs.declared.Reported.{Reported}
+use Rattle.report.specs.Calls.{withLineAnswer, togetherAnswer}
 use Rattle.numbers.specs.Integers.{ReadIntegerOk}
 use Rattle.numbers.specs.Decimals.{ReadBcdOk}
 use Rattle.numbers.specs.Reals.{ReadRealOk}
@@ -65,6 +69,10 @@ pub record Unique : Type 0 where
   pub put-data : (f : ℕ) (line : List ℕ) (sector : ℕ) (bytes : List ℕ) → OneInBytes (PutData f line sector bytes)
   pub put-pixels : (f : ℕ) (line : List ℕ) (sector : ℕ) (ps : List ℕ) → OneInBytes (PutPixels 2 11 f line sector ps)
   pub put-pixels-wide : (f : ℕ) (line : List ℕ) (sector : ℕ) (ps : List ℕ) → OneInBytes (PutPixels 12 12 f line sector ps)
+  -- the pass report
+  pub empty : One (λ (r : Report). r ≡ emptyReport)
+  pub with-line : (f : ℕ) (report : Report) (line : List ℕ) → One (λ (r : Reported). r ≡ withLineAnswer f report line)
+  pub together : (a b : Report) → One (λ (r : Reported). r ≡ togetherAnswer a b)
   -- numbers
   pub read-integer : (n : ℕ) (bytes : List ℕ) → One (ReadIntegerOk n bytes)
   pub read-bcd : (n : ℕ) (bytes : List ℕ) → One (ReadBcdOk n bytes)

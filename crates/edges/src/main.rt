@@ -1,6 +1,6 @@
-// Both sides of each edge that document 01 names for the reader, of those of a finished block's entries, and of the start value of
-// the check, as runs: one line of output for each. The expected lines in `stdout` follow from documents 01 and 02, and not from a
-// run of this program.
+// Both sides of each edge that document 01 names for the reader, as runs: one line of output for each; `entry_edges` has those of
+// a finished block's entries and of the check. The expected lines in `stdout` follow from documents 01 and 02, and not from a run
+// of this program.
 //
 // A recording here is noise of one byte, tails where the edge has them, and information bits that are the noise too. With
 // noise of zeros the plain line opens with the scrambling bytes after SYNC, every second one inverted: 00 FD 00 F3. Where
@@ -10,9 +10,6 @@ ghost use lib.ListN.{length};
 use reader::Answer;
 use reader_record::State;
 use text::Row;
-
-mod check_from_ones;
-mod entries_at_edges;
 
 // The bytes that a recording here can have, and those of a line.
 const SPACE: usize = 89000;
@@ -426,6 +423,4 @@ fn main() {
     tails_at_edges();
     nothing();
     refusals();
-    entries_at_edges::all();
-    check_from_ones::all();
 }

@@ -10,3 +10,5 @@ pub mod UniqueAcross
 pub mod Assembled
 pub mod Grid
 pub mod Cards
+pub mod Reports
+pub mod ReportRun

@@ -1,5 +1,5 @@
 -- THE LIST `Zeros`, row by row: an answer that was asked for has the number 0. Assumes nothing.
-use mathlib.Core.Bool.{Bool, false}
+use mathlib.Core.Bool.{Bool, true, false, cond, _&&_}
 use mathlib.Core.List.{List}
 use mathlib.Core.Path.{_≡_, refl, ap, ap₂, _∙_}
 use Prim.Native.Nat.{ℕ, zero, suc, _<_}
@@ -58,10 +58,15 @@ use Rattle.rack_recording.specs.declared.ReaderState.{ReaderState}
 use Rattle.rack_recording.specs.declared.ReadAnswer.{ReadAnswer}
 use Rattle.rack_recording.specs.Recording.{readOf, writtenGiven}
 use Rattle.rack_sector.specs.Sector.{twelveGiven, fillerGiven, stripGiven}
+use Rattle.report.specs.declared.Reported.{Reported}
+use Rattle.report.specs.Calls.{withLineAnswer, togetherAnswer}
+use Rattle.rack_report.specs.declared.PassReport.{PassReport}
+use Rattle.rack_report.specs.declared.ReportAnswer.{ReportAnswer}
+use Rattle.rack_report.specs.PassReport.{reportHanded, reportGiven, marked, markRefusal, answerGiven, withLineOf, togetherOf}
 use Rattle.rack_document.specs.Documentation.{nameGiven, scanGiven, scannerGiven, linesGiven, dateGiven, segmentGiven}
 use Rattle.rack_blocks.specs.Assembly.{addGiven, revisionGiven}
 use Rattle.rack_entries.specs.Entry.{levelGiven, levelF64Given, gridGiven, orbitGiven}
-use Rattle.rack.specs.Zeros.{FormatAlone, CountAlone, TwelveAlone, StripAlone, IntegerAlone, BcdAlone, RealAlone, FloatAlone, NameAlone, LinesAlone, DateAlone, SegmentAlone, RevisionAlone, LevelAlone, LevelFloatAlone, GridAlone, OrbitAlone, StepBack, ReadBack, AddBack, Zeros}
+use Rattle.rack.specs.Zeros.{FormatAlone, CountAlone, TwelveAlone, StripAlone, IntegerAlone, BcdAlone, RealAlone, FloatAlone, NameAlone, LinesAlone, DateAlone, SegmentAlone, RevisionAlone, LevelAlone, LevelFloatAlone, GridAlone, OrbitAlone, StepBack, ReadBack, AddBack, Zeros, ReportBack}
 use Rattle.rack.proofs.Records.{read-refused}
 
 format-row : (a : formats.FormatAnswer) → FormatAlone (formatGiven a)
@@ -188,6 +193,22 @@ read-row f setting s piece line h = let u = read-refused f setting s piece line 
     some zero h = absurd (h refl)
     some (suc n) h = zero-lt-suc n
 
+given-back : (was : PassReport) (a : Reported) → ReportBack was (answerGiven was a)
+unfolding answerGiven
+given-back was a h = λ i. record { refused = a .refused; report = kept-some (a .refused) was (reportGiven (a .report)) h i }
+
+marked-or : (t : Bool) (was : PassReport) (n : ℕ) (a : ReportAnswer) → ReportBack was a → ReportBack was (cond t a (record { refused = n; report = was }))
+marked-or true was n a h = h
+marked-or false was n a h = λ some. refl
+
+with-line-row : (f : ℕ) (report : PassReport) (line : List ℕ) → ReportBack report (withLineOf f report line)
+unfolding withLineOf
+with-line-row f report line = marked-or (marked report) report (markRefusal f) _ (given-back report (withLineAnswer f (reportHanded report) line))
+
+together-row : (a b : PassReport) → ReportBack a (togetherOf a b)
+unfolding togetherOf
+together-row a b = marked-or (marked a && marked b) a 12 _ (given-back a (togetherAnswer (reportHanded a) (reportHanded b)))
+
 pub zeros : Zeros
 zeros = record {
   format-of = format-row;
@@ -198,6 +219,8 @@ zeros = record {
   filler = filler-row;
   answers = twelve-row;
   strip = strip-row;
+  with-line = with-line-row;
+  together = together-row;
   integer = integer-row;
   bcd = bcd-row;
   real = real-row;

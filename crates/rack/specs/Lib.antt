@@ -3,3 +3,4 @@ pub mod Demand3
 pub mod Zeros
 pub mod UniqueAcross
 pub mod Assembled
+pub mod ReportRun

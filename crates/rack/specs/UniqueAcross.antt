@@ -47,6 +47,10 @@ use Rattle.rack_recording.specs.Recording.{keptOf, readOf, lineLeft, writtenGiv
 use Rattle.rack_sector.specs.declared.TwelveAnswer.{TwelveAnswer}
 use Rattle.rack_sector.specs.declared.StripAnswer.{StripAnswer}
 use Rattle.rack_sector.specs.Sector.{twelveGiven, fillerGiven, stripGiven}
+use Rattle.report_record.specs.Report.{emptyReport}
+use Rattle.rack_report.specs.declared.PassReport.{PassReport}
+use Rattle.rack_report.specs.declared.ReportAnswer.{ReportAnswer}
+use Rattle.rack_report.specs.PassReport.{reportGiven, withLineOf, togetherOf}
 use Rattle.rack_document.specs.declared.NameAnswer.{NameAnswer}
 use Rattle.rack_document.specs.declared.LinesAnswer.{LinesAnswer}
 use Rattle.rack_document.specs.declared.DateAnswer.{DateAnswer}
@@ -86,6 +90,10 @@ pub record UniqueAcross : Type 0 where
   pub put-data : (f : ℕ) (line : List ℕ) (sector : ℕ) (bytes : List ℕ) → OneInBytes (λ (r : ℕ) (x : List ℕ). (r ≡ putDataAnswer f (length line) sector (length bytes)) × (bitsOf x ≡ putDataLeft f line sector bytes))
   pub put-pixels : (f : ℕ) (line : List ℕ) (sector : ℕ) (ps : List ℕ) → OneInBytes (λ (r : ℕ) (x : List ℕ). (r ≡ putPixelsAnswer 2 11 f (length line) sector ps) × (bitsOf x ≡ putPixelsLeft 2 11 f line sector ps))
   pub put-pixels-wide : (f : ℕ) (line : List ℕ) (sector : ℕ) (ps : List ℕ) → OneInBytes (λ (r : ℕ) (x : List ℕ). (r ≡ putPixelsAnswer 12 12 f (length line) sector ps) × (bitsOf x ≡ putPixelsLeft 12 12 f line sector ps))
+  -- the pass report
+  pub empty-report : One (λ (r : PassReport). r ≡ reportGiven emptyReport)
+  pub with-line : (f : ℕ) (report : PassReport) (line : List ℕ) → One (λ (r : ReportAnswer). r ≡ withLineOf f report line)
+  pub together : (a b : PassReport) → One (λ (r : ReportAnswer). r ≡ togetherOf a b)
   -- numbers
   pub read-integer : (n : ℕ) (bytes : List ℕ) → One (λ (r : IntegerAnswer). r ≡ integerGiven (readIntegerAnswer n bytes))
   pub read-bcd : (n : ℕ) (bytes : List ℕ) → One (λ (r : BcdAnswer). r ≡ bcdGiven (readBcdAnswer n bytes))

@@ -46,6 +46,9 @@ use Rattle.rack_recording.specs.Recording.{readOf, writtenGiven}
 use Rattle.rack_sector.specs.declared.TwelveAnswer.{TwelveAnswer}
 use Rattle.rack_sector.specs.declared.StripAnswer.{StripAnswer}
 use Rattle.rack_sector.specs.Sector.{twelveGiven, fillerGiven, stripGiven}
+use Rattle.rack_report.specs.declared.PassReport.{PassReport}
+use Rattle.rack_report.specs.declared.ReportAnswer.{ReportAnswer}
+use Rattle.rack_report.specs.PassReport.{withLineOf, togetherOf}
 use Rattle.rack_document.specs.declared.NameAnswer.{NameAnswer}
 use Rattle.rack_document.specs.declared.LinesAnswer.{LinesAnswer}
 use Rattle.rack_document.specs.declared.DateAnswer.{DateAnswer}
@@ -127,7 +130,7 @@ GridAlone a = Refuses (a .refused) → a ≡ record { refused = a .refused; line
 abbrev pub OrbitAlone : OrbitAnswer → Type 0
 OrbitAlone a = Refuses (a .refused) → a ≡ record { refused = a .refused; epoch = zeroFloat; axis = zeroFloat; eccentricity = zeroFloat; inclination = zeroFloat; node = zeroFloat; perigee = zeroFloat; anomaly = zeroFloat }
 
--- and what was handed in: the register, the reader's record, the record of an assembly
+-- and what was handed in: the register, the reader's record, the record of an assembly, the report
 abbrev pub StepBack : ℕ → StepAnswer → Type 0
 StepBack register a = Refuses (a .refused) → a ≡ record { refused = a .refused; bit = 0; register = register }
 
@@ -136,6 +139,9 @@ ReadBack s a = Refuses (a .refused) → a ≡ record { refused = a .refused; com
 
 abbrev pub AddBack : AssemblyRecord → AddAnswer → Type 0
 AddBack was a = Refuses (a .refused) → a ≡ record { refused = a .refused; «first_copy» = false; segment = 0; assembly = was }
+
+abbrev pub ReportBack : PassReport → ReportAnswer → Type 0
+ReportBack was a = Refuses (a .refused) → a ≡ record { refused = a .refused; report = was }
 
 pub record Zeros : Type 0 where
   pub format-of : (a : formats.FormatAnswer) → FormatAlone (formatGiven a)
@@ -147,6 +153,8 @@ pub record Zeros : Type 0 where
   pub filler : (a : Counted) → CountAlone (fillerGiven a)
   pub answers : (f : ℕ) (line : List ℕ) → TwelveAlone (twelveGiven (answersAnswer f line))
   pub strip : (a : Stripped) → StripAlone (stripGiven a)
+  pub with-line : (f : ℕ) (report : PassReport) (line : List ℕ) → ReportBack report (withLineOf f report line)
+  pub together : (a b : PassReport) → ReportBack a (togetherOf a b)
   pub integer : (a : Integer) → IntegerAlone (integerGiven a)
   pub bcd : (a : Bcd) → BcdAlone (bcdGiven a)
   pub real : (a : Real) → RealAlone (realGiven a)

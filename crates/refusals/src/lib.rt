@@ -18,6 +18,9 @@ pub const SETTING: u8 = 13;
 // The state record is impossible.
 pub const STATE: u8 = 12;
 
+// A line more, or two reports together, would be over 100,000 lines.
+pub const FULL: u8 = 15;
+
 // The sector, channel or block number is not one that the call serves; calibration-2 in format 2.
 pub const NUMBER: u8 = 4;
 

@@ -7,7 +7,9 @@
 use crate::bits;
 use crate::format::{format, INFORMATION_BITS};
 use crate::pattern;
+use crate::refusal::Refusal;
 use crate::scramble::tail;
+use crate::sectors::{check_word, CHECK_BITS, FILLER_BITS, SECTORS};
 
 /// A small pseudo-random generator: x becomes
 /// 6364136223846793005 x + 1442695040888963407 modulo 2^64, and the upper 32
@@ -168,6 +170,78 @@ pub fn make(kind: usize, format_number: usize, random: &mut Random) -> (&'static
         9 => ("noise", random.bytes(20_000)),
         _ => panic!("there are ten kinds"),
     }
+}
+
+/// The place of a sector's first check bit.
+fn check_place(number: usize) -> usize {
+    SECTORS[number - 1].filler_start() - CHECK_BITS
+}
+
+/// Turns over the last data bit of a sector, which is then refused with 5.
+pub fn wrong_check(line: &mut [u8], number: usize) {
+    bits::turn_over(line, check_place(number) - 1);
+}
+
+/// Turns over the first ID bit of a sector and makes its check word right again,
+/// in a format: it is then refused with 6.
+pub fn wrong_id(format_number: usize, line: &mut [u8], number: usize) -> Result<(), Refusal> {
+    let start = SECTORS[number - 1].start;
+    bits::turn_over(line, start);
+    let id_and_data = bits::part(line, start, check_place(number) - start);
+    let word = check_word(format(format_number)?.check_start, &id_and_data);
+    for (i, bit) in bits::of_number(word.into(), CHECK_BITS)
+        .into_iter()
+        .enumerate()
+    {
+        bits::set_bit(line, check_place(number) + i, bit);
+    }
+    Ok(())
+}
+
+/// Whether the recording of `second damaged N FORMAT` has a wrong check in
+/// sector s of line k, ...
+pub fn has_wrong_check(k: u64, s: usize) -> bool {
+    let of_ir3 = [4, 11][(k % 2) as usize];
+    s == of_ir3 || (k + s as u64).is_multiple_of(5)
+}
+
+/// ... and whether it has a wrong ID there.
+pub fn has_wrong_id(k: u64, s: usize) -> bool {
+    !has_wrong_check(k, s) && (k + s as u64).is_multiple_of(7)
+}
+
+/// How many filler bits are set there: none to three.
+pub fn filler_set(k: u64, s: usize) -> usize {
+    (k + s as u64) as usize % 4
+}
+
+/// Line k, from 0, of the recording of `second damaged N FORMAT`: the pattern's,
+/// with damage that goes by k and by the sector s, 1 to 12.
+///
+/// - A wrong check, so that it is refused with 5, where k + s is a multiple of
+///   5; and where k is even in IR3 upper, where k is odd in IR3 lower. So IR3
+///   has no pair, and no pixels, in any line.
+/// - A wrong ID with the check word that goes with it, so that it is refused
+///   with 6, where k + s is a multiple of 7 and the check is right.
+/// - (k + s) mod 4 set filler bits, whatever else is wrong: the first, the last,
+///   one in the middle, in this order.
+pub fn damaged_line(format_number: usize, k: u64) -> Result<Vec<u8>, Refusal> {
+    let mut line = pattern::line(format_number, k, 0)?;
+    for s in 1..=SECTORS.len() {
+        if has_wrong_check(k, s) {
+            wrong_check(&mut line, s);
+        }
+        if has_wrong_id(k, s) {
+            wrong_id(format_number, &mut line, s)?;
+        }
+        for place in [0, FILLER_BITS - 1, FILLER_BITS / 2]
+            .into_iter()
+            .take(filler_set(k, s))
+        {
+            bits::set_bit(&mut line, SECTORS[s - 1].filler_start() + place, 1);
+        }
+    }
+    Ok(line)
 }
 
 /// A recording cut into pieces at random. A piece has at most `longest` bytes

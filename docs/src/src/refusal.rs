@@ -14,8 +14,14 @@ pub const FORMAT: Refusal = 1;
 /// Document 02, T-01: "13 for a setting above 6, tested after 1"
 pub const SETTING: Refusal = 13;
 
-/// "state record impossible: ... a segment mark above 24"
+/// "state record impossible: ... a segment mark above 24". Document 02, T-05: "12
+/// for a record over the limit, with sector counts that do not add up, or a
+/// count or sum above what its lines allow"
 pub const STATE: Refusal = 12;
+
+/// Document 02, T-05: "15, tested after 12, for one line more, or two records
+/// together over the limit"
+pub const FULL: Refusal = 15;
 
 /// "sector, channel or block number is not one this call serves;
 /// calibration-2 in format 2"

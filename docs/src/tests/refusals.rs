@@ -8,19 +8,20 @@
 
 use std::sync::OnceLock;
 
-use second::bits;
 use second::blocks::{self, Assembly, ALL_MARKS, BLOCKS, MANAM};
+use second::damage::{wrong_check, wrong_id};
 use second::document;
 use second::format::{format, LINE_BYTES};
 use second::numbers::{read_bcd, read_i, read_r, write_r};
 use second::pattern;
 use second::reader::{impossible, read, State};
+use second::report::{self, Channel, Report, Tally};
 use second::scramble::write_line;
-use second::sectors::{self, check_word, SECTORS, STRIP_BYTES};
+use second::sectors::{self, SECTORS, STRIP_BYTES};
 
-/// The refusal numbers as the table lists them. 13 and 14 are document 02's:
-/// "tested after 1", "tested before 8".
-const TABLE: [u8; 14] = [1, 13, 12, 4, 10, 11, 2, 3, 5, 6, 7, 14, 8, 9];
+/// The refusal numbers as the table lists them. 13, 14 and 15 are document 02's:
+/// "tested after 1", "tested before 8", "tested after 12".
+const TABLE: [u8; 15] = [1, 13, 12, 15, 4, 10, 11, 2, 3, 5, 6, 7, 14, 8, 9];
 
 /// The faults of one call.
 struct Faults(Vec<u8>);
@@ -57,26 +58,6 @@ fn every_set(can_have: &[u8], mut call: impl FnMut(&Faults) -> Result<(), u8>) {
 /// The formats that are served; 0 and 4 stand beside them.
 const FORMATS: [usize; 3] = [1, 2, 3];
 
-/// Changes a sector's ID and makes its check word right again, in a format.
-fn give_wrong_id(format_number: usize, line: &mut [u8], number: usize) {
-    let start = format(format_number).unwrap().check_start;
-    let sector = &SECTORS[number - 1];
-    let length = sector.id().len() + sector.data_bits();
-    bits::set_bit(line, sector.start, 1 - sector.id()[0]);
-    let word = check_word(start, &bits::part(line, sector.start, length));
-    for (i, bit) in bits::of_number(word.into(), 16).into_iter().enumerate() {
-        bits::set_bit(line, sector.start + length + i, bit);
-    }
-}
-
-/// Turns over the last data bit of a sector.
-fn damage(line: &mut [u8], number: usize) {
-    let sector = &SECTORS[number - 1];
-    let last = sector.start + sector.id().len() + sector.data_bits() - 1;
-    let turned = 1 - bits::bit(line, last);
-    bits::set_bit(line, last, turned);
-}
-
 /// Line 9 of the pattern: segment 1, repeat 1. It is made once for each format
 /// and copied.
 fn good_line(format: usize) -> Vec<u8> {
@@ -94,10 +75,10 @@ fn line_with(format: usize, faults: &Faults, sector: usize) -> Vec<u8> {
 
 fn spoil(format: usize, line: &mut Vec<u8>, faults: &Faults, sector: usize) {
     if faults.has(6) {
-        give_wrong_id(format, line, sector);
+        wrong_id(format, line, sector).unwrap();
     }
     if faults.has(5) {
-        damage(line, sector);
+        wrong_check(line, sector);
     }
     if faults.has(2) {
         line.pop();
@@ -131,6 +112,49 @@ fn reading() {
         assert!(buffer.iter().all(|&byte| byte == 0xEE));
         given.map(|_| ())
     });
+}
+
+/// A record of so many lines, all of them accepted; with the fault 12 one sector
+/// has a line more or less.
+fn record(lines: u64, faults: &Faults) -> Report {
+    let accepted = Tally {
+        accepted: lines,
+        ..Tally::default()
+    };
+    let mut record = Report {
+        lines,
+        sectors: [accepted; 12],
+        channels: [Channel::default(); 4],
+    };
+    if faults.has(12) {
+        record.sectors[11].accepted ^= 1;
+    }
+    record
+}
+
+#[test]
+fn one_line_more_in_a_report() {
+    every_set(&[1, 12, 15, 2], |faults| {
+        let before = record(faults.pick(15, 100_000, 99_999), faults);
+        let mut line = good_line(3);
+        line.truncate(faults.pick(2, LINE_BYTES - 1, LINE_BYTES));
+        report::with_line(faults.pick(1, 4, 3), &before, &line).map(|_| ())
+    });
+}
+
+/// 12 of either record; 15 is for both together.
+#[test]
+fn two_reports_together() {
+    for first_is_wrong in [true, false] {
+        every_set(&[12, 15], |faults| {
+            let wrong = record(faults.pick(15, 60_001, 60_000), faults);
+            let right = record(40_000, &Faults(vec![]));
+            match first_is_wrong {
+                true => report::together(&wrong, &right).map(|_| ()),
+                false => report::together(&right, &wrong).map(|_| ()),
+            }
+        });
+    }
 }
 
 /// "13 for a setting above 6": 6 is served and 7 is refused, with an empty
@@ -194,8 +218,8 @@ fn checking_a_sector() {
 fn counting_filler_refuses_neither_5_nor_6() {
     every_set(&[1, 4, 2], |faults| {
         let mut line = line_with(2, faults, 7);
-        give_wrong_id(2, &mut line, 7);
-        damage(&mut line, 7);
+        wrong_id(2, &mut line, 7).unwrap();
+        wrong_check(&mut line, 7);
         let given = sectors::filler(faults.pick(1, 4, 2), &line, faults.pick(4, 0, 7));
         given.map(|filler| assert_eq!(filler, 0))
     });
@@ -258,14 +282,14 @@ fn joining_pixels() {
 fn the_upper_sector_is_tested_before_the_lower() {
     for format in FORMATS {
         let mut line = good_line(format);
-        give_wrong_id(format, &mut line, 2);
-        damage(&mut line, 9);
+        wrong_id(format, &mut line, 2).unwrap();
+        wrong_check(&mut line, 9);
         let mut out = vec![0xEEEE; 2_291];
         assert_eq!(sectors::joined(format, &line, 1, &mut out), Err(6));
 
         let mut line = good_line(format);
-        damage(&mut line, 2);
-        give_wrong_id(format, &mut line, 9);
+        wrong_check(&mut line, 2);
+        wrong_id(format, &mut line, 9).unwrap();
         assert_eq!(sectors::joined(format, &line, 1, &mut out), Err(5));
         assert_eq!(out, vec![0xEEEE; 2_291]);
     }
@@ -288,8 +312,8 @@ fn each_of_the_twelve_answers_is_its_sectors_own() {
     let pairs = [(1, 2), (2, 9), (5, 12), (8, 7), (9, 11), (12, 1)];
     for ((damaged, renamed), format) in pairs.into_iter().zip([1, 2, 3, 1, 2, 3]) {
         let mut line = good_line(format);
-        damage(&mut line, damaged);
-        give_wrong_id(format, &mut line, renamed);
+        wrong_check(&mut line, damaged);
+        wrong_id(format, &mut line, renamed).unwrap();
         let mut expected = [0; 12];
         expected[damaged - 1] = 5;
         expected[renamed - 1] = 6;
@@ -329,10 +353,10 @@ fn the_parts_of_bad_visible_sectors_stay() {
                 continue;
             }
             if v % 2 == 0 {
-                damage(&mut line, 5 + v);
+                wrong_check(&mut line, 5 + v);
                 *answer = 5;
             } else {
-                give_wrong_id(format, &mut line, 5 + v);
+                wrong_id(format, &mut line, 5 + v).unwrap();
                 *answer = 6;
             }
         }
@@ -728,7 +752,7 @@ fn adding_a_segment() {
 #[test]
 fn a_refused_first_copy_is_not_stored() {
     let mut line = good_line(1);
-    damage(&mut line, 1);
+    wrong_check(&mut line, 1);
     let mut assembly = Assembly::default();
     let mut buffer = vec![0xEE; 2_500];
     assert_eq!(

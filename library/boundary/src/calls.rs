@@ -34,7 +34,7 @@ const ROWS: [(&str, &[&str]); 10] = [
 const NEVER: [(&str, u64); 2] = [("mapping", 4), ("elements", 4)];
 
 /// Calls without a row: they cannot refuse.
-const SERVED: [&str; 3] = ["version", "fresh", "fresh_assembly"];
+const SERVED: [&str; 4] = ["version", "fresh", "fresh_assembly", "empty_report"];
 
 /// The numbers that each call tests, without their order.
 pub fn tested(text: &str) -> Result<BTreeMap<String, Vec<u64>>, String> {

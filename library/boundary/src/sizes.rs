@@ -24,9 +24,11 @@ const MARKS: &str = "crates/blocks/src/marks.rt";
 const SCRAMBLE: &str = "crates/scramble/src/lib.rt";
 pub const READER: &str = "crates/reader/src/lib.rt";
 const TWELVE: &str = "crates/rack_sector/src/lib.rt";
+const PASS: &str = "crates/rack_report/src/lib.rt";
+pub const REPORT: &str = "crates/report_record/src/lib.rt";
 
 /// Every size by its name in Rust; in the header the prefix comes before it.
-const SIZES: [(&str, &str, From); 32] = [
+const SIZES: [(&str, &str, From); 34] = [
     ("S_VISSR", FORMATS, Field("fn svissr()", "number")),
     ("HIRID", FORMATS, Field("fn hirid()", "number")),
     ("S_VISSR_ONES", FORMATS, Field("fn svissr_ones()", "number")),
@@ -69,6 +71,8 @@ const SIZES: [(&str, &str, From); 32] = [
     ("CALIBRATION_1_BYTES", BLOCK, Field("4 => Block", "size")),
     ("CALIBRATION_2_BYTES", BLOCK, Field("5 => Block", "size")),
     ("SEGMENTS", BLOCK, Constants("SEGMENTS")),
+    ("CHANNELS", PASS, Field("channels: [ChannelTally", ";")),
+    ("REPORT_LINES", REPORT, Constants("MOST_LINES")),
     ("ALL_MARKS", MARKS, Constants("ALL")),
     ("FIFTEEN_ONES", SCRAMBLE, Constants("FIFTEEN_ONES")),
 ];

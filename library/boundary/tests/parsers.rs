@@ -443,7 +443,8 @@ fn the_tests_of_a_call_are_read() {
     assert_eq!(found["hansobrik_read"], [5, 1, 7]);
     assert_eq!(found["hansobrik_mapping"], [9]);
     assert_eq!(found["hansobrik_fresh"], [0; 0]);
-    assert_eq!(found.len(), 9);
+    assert_eq!(found["hansobrik_empty_report"], [0; 0]);
+    assert_eq!(found.len(), 10);
     for (old, new) in [
         ("record Orders", "record Others"),
         ("pub read :", "pub fresh :"),

@@ -124,7 +124,7 @@ pub struct Outcome {
 }
 
 impl Outcome {
-    /// The number of the refusal; 0 for an answer, and for the three calls that
+    /// The number of the refusal; 0 for an answer, and for the four calls that
     /// cannot refuse.
     pub fn refused(&self, row: &Row) -> u8 {
         match row.refusals {

@@ -7,6 +7,7 @@
 
 pub mod call;
 pub mod names;
+pub mod report;
 pub mod rows;
 mod shapes;
 

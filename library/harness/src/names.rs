@@ -1,4 +1,4 @@
-//! The 42 calls by name.
+//! The 45 calls by name.
 
 /// The calls in the header's order.
 #[derive(Clone, Copy, Debug, PartialEq, Eq)]
@@ -45,4 +45,7 @@ pub enum Name {
     Temperature,
     TemperatureF64,
     Elements,
+    EmptyReport,
+    WithLine,
+    Together,
 }

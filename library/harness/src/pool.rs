@@ -2,12 +2,15 @@
 //! cut from, and what is needed to damage a sector in a known way quickly.
 
 use second::bits::{self, bit, set_bit};
+use second::damage;
 use second::format::{self, INFORMATION_BITS, LINE_BYTES};
 use second::pattern;
+use second::report;
 use second::scramble::after_sync;
 use second::sectors::{self, Sector, CHECK_BITS, FILLER_BITS, SECTORS};
 
 use crate::dice::Dice;
+use crate::report::Report;
 
 const NOISE: usize = 1 << 18;
 
@@ -24,6 +27,8 @@ pub struct Pool {
     /// Plain lines whose twelve sectors are accepted: of the card whose check
     /// starts from 0, and of the one whose check starts from ones.
     good: [Vec<Vec<u8>>; 2],
+    /// Reports of one line each, some of them with damage.
+    reports: Vec<report::Report>,
     /// Fifteen ones, then the scrambling bits after SYNC.
     scrambling: Vec<u8>,
     /// For each sector and each bit of its ID, the change of the check word
@@ -94,11 +99,22 @@ impl Pool {
                 good.push(pattern::line(format, k, tables).expect("a format"));
             }
         }
+        let one = |format, line: &[u8]| report::with_line(format, &report::Report::default(), line);
+        let mut reports = Vec::new();
+        for k in 0..4 {
+            let format = FORMATS[k % 3];
+            let line = damage::damaged_line(format, k as u64).expect("a format");
+            reports.push(one(format, &line).expect("a line"));
+        }
+        for line in &good[0][..2] {
+            reports.push(one(1, line).expect("a line"));
+        }
         let mut scrambling = vec![1; 15];
         scrambling.extend(after_sync(INFORMATION_BITS));
         Pool {
             noise,
             good,
+            reports,
             scrambling,
             id_checks: SECTORS.iter().map(id_checks).collect(),
             card_checks: SECTORS.iter().map(card_check).collect(),
@@ -115,6 +131,16 @@ impl Pool {
     pub fn good(&self, format: usize, dice: &mut Dice) -> Vec<u8> {
         let good = &self.good[usize::from(from_ones(format))];
         good[dice.under(good.len())].clone()
+    }
+
+    /// The report of so many lines of the pool.
+    pub fn report(&self, lines: u64, dice: &mut Dice) -> Report {
+        let mut all = report::Report::default();
+        for _ in 0..lines {
+            let one = &self.reports[dice.under(self.reports.len())];
+            all = report::together(&all, one).expect("few lines");
+        }
+        Report::from(&all)
     }
 
     /// The scrambling register before a line bit.

@@ -1,4 +1,4 @@
-//! The 42 calls as the header declares them. `tests/rows.rs` holds this table
+//! The 45 calls as the header declares them. `tests/rows.rs` holds this table
 //! to the header's own text.
 
 pub use crate::names::Name;
@@ -6,10 +6,10 @@ pub use crate::shapes::REGISTER_LENT;
 use crate::shapes::*;
 
 /// How many calls there are.
-pub const CALLS: usize = 42;
+pub const CALLS: usize = 45;
 
 /// All refusals, in the order in which they are tested.
-pub const ORDER: [u8; 14] = [1, 13, 12, 4, 10, 11, 2, 3, 5, 6, 7, 14, 8, 9];
+pub const ORDER: [u8; 15] = [1, 13, 12, 15, 4, 10, 11, 2, 3, 5, 6, 7, 14, 8, 9];
 
 /// A buffer of a call.
 #[derive(Clone, Copy, Debug, PartialEq, Eq)]
@@ -22,7 +22,7 @@ pub struct Part {
 }
 
 /// What comes back as it was handed in where a call is refused: the reader's
-/// record, a register, an assembly's record.
+/// record, a register, an assembly's record, a report.
 #[derive(Clone, Copy, Debug, PartialEq, Eq)]
 pub struct Kept {
     /// The first of them among the answer's fields, ...
@@ -61,6 +61,8 @@ const fn row(
         Name::Stepped | Name::Step => KEEPS_REGISTER,
         Name::Read => KEEPS_RECORD,
         Name::AddSegment => KEEPS_ASSEMBLY,
+        Name::WithLine => KEEPS_REPORT,
+        Name::Together => KEEPS_FIRST_REPORT,
         _ => KEEPS_NOTHING,
     };
     Row {
@@ -119,4 +121,7 @@ pub const ROWS: [Row; CALLS] = [
     row(Name::Temperature, "temperature", LEVEL, &[BLOCK], LEVEL_REAL, ENTRY),
     row(Name::TemperatureF64, "temperature_f64", LEVEL, &[BLOCK], LEVEL_FLOAT, ENTRY),
     row(Name::Elements, "elements", ASSEMBLED, &[BLOCK], ORBIT, &[1, 12, 2, 9]),
+    row(Name::EmptyReport, "empty_report", &[], &[], REPORT, &[]),
+    row(Name::WithLine, "with_line", REPORTING, &[LINE], REPORTED, &[1, 12, 15, 2]),
+    row(Name::Together, "together", TWO_REPORTS, &[], REPORTED, &[12, 15]),
 ];

@@ -1,6 +1,7 @@
 //! What several rows share: numbers handed in, buffers, fields of answers,
 //! refusals. Names are the header's.
 
+use crate::report::NUMBERS;
 use crate::rows::{Kept, Part};
 
 pub type Numbers = &'static [(&'static str, u32)];
@@ -60,6 +61,66 @@ pub const LEVEL: Numbers = &[
     ("channel", 8),
     ("level", 16),
 ];
+
+// A report, of which every number of every sector and channel has a name.
+macro_rules! sector {
+    ($place:literal) => {
+        [
+            (concat!("sectors[", $place, "].accepted"), 64),
+            (concat!("sectors[", $place, "].remainder"), 64),
+            (concat!("sectors[", $place, "].id"), 64),
+            (concat!("sectors[", $place, "].filler"), 64),
+        ]
+    };
+}
+macro_rules! channel {
+    ($place:literal) => {
+        [
+            (concat!("channels[", $place, "].count"), 64),
+            (concat!("channels[", $place, "].sum"), 64),
+            (concat!("channels[", $place, "].least"), 16),
+            (concat!("channels[", $place, "].largest"), 16),
+            (concat!("channels[", $place, "].present"), 32),
+        ]
+    };
+}
+#[rustfmt::skip] // a table: four sectors or channels a line
+const SECTOR_TALLIES: [[(&str, u32); 4]; 12] = [
+    sector!(0), sector!(1), sector!(2), sector!(3),
+    sector!(4), sector!(5), sector!(6), sector!(7),
+    sector!(8), sector!(9), sector!(10), sector!(11),
+];
+const CHANNEL_TALLIES: [[(&str, u32); 5]; 4] = [channel!(0), channel!(1), channel!(2), channel!(3)];
+
+/// The elements of one list, then those of another: so many in all.
+const fn both<T: Copy, const ALL: usize>(one: &[T], other: &[T]) -> [T; ALL] {
+    let mut all = [one[0]; ALL];
+    let mut i = 0;
+    while i < ALL {
+        all[i] = if i < one.len() {
+            one[i]
+        } else {
+            other[i - one.len()]
+        };
+        i += 1;
+    }
+    all
+}
+
+const fn names(numbers: [(&'static str, u32); NUMBERS]) -> [&'static str; NUMBERS] {
+    let mut names = [""; NUMBERS];
+    let mut i = 0;
+    while i < NUMBERS {
+        names[i] = numbers[i].0;
+        i += 1;
+    }
+    names
+}
+
+const OF_SECTORS: [(&str, u32); 49] = both(&[("lines", 64)], SECTOR_TALLIES.as_flattened());
+const OF_REPORT: [(&str, u32); NUMBERS] = both(&OF_SECTORS, CHANNEL_TALLIES.as_flattened());
+pub const REPORTING: Numbers = &both::<_, 70>(FORMAT, &OF_REPORT);
+pub const TWO_REPORTS: Numbers = &both::<_, 138>(&OF_REPORT, &OF_REPORT);
 
 const fn part(what: &'static str, words: bool, written: bool) -> Part {
     Part {
@@ -183,6 +244,9 @@ pub const ORBIT: Fields = &[
     "anomaly",
 ];
 
+pub const REPORT: Fields = &names(OF_REPORT);
+pub const REPORTED: Fields = &both::<_, 70>(ALONE, REPORT);
+
 // What comes back as it was handed in where a call is refused.
 pub const KEEPS_NOTHING: Kept = Kept {
     field: 0,
@@ -203,6 +267,17 @@ pub const KEEPS_ASSEMBLY: Kept = Kept {
     field: 3,
     number: 1,
     count: 3,
+};
+
+pub const KEEPS_REPORT: Kept = Kept {
+    field: 1,
+    number: 1,
+    count: NUMBERS,
+};
+pub const KEEPS_FIRST_REPORT: Kept = Kept {
+    field: 1,
+    number: 0,
+    count: NUMBERS,
 };
 
 // Refusals, in the order in which they are tested.

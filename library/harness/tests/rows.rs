@@ -44,8 +44,8 @@ fn bits(kind: &str) -> u32 {
     }
 }
 
-/// The structs by name: kind and name of each field, a record's fields and an
-/// array's elements one by one.
+/// The structs by name: kind and name of each field, a record's fields, an
+/// array's elements and the fields of an array of records one by one.
 fn structs() -> HashMap<String, Vec<(String, String)>> {
     let mut structs: HashMap<String, Vec<(String, String)>> = HashMap::new();
     let text = bare(&declarations());
@@ -56,11 +56,18 @@ fn structs() -> HashMap<String, Vec<(String, String)>> {
         for field in body.split(';').filter(|field| !field.trim().is_empty()) {
             let (kind, field) = field.trim().split_once(' ').expect("kind and name");
             match (structs.get(kind), field.split_once('[')) {
-                (Some(record), _) => fields.extend(record.clone()),
-                (None, Some((array, count))) => {
+                (Some(record), None) => fields.extend(record.clone()),
+                (record, Some((array, count))) => {
                     let count: usize = count.trim_end_matches(']').parse().expect("a count");
-                    let element = |i| (kind.to_string(), format!("{array}[{i}]"));
-                    fields.extend((0..count).map(element));
+                    for element in (0..count).map(|i| format!("{array}[{i}]")) {
+                        let of_record = |(kind, field): &(String, String)| {
+                            (kind.clone(), format!("{element}.{field}"))
+                        };
+                        match record {
+                            Some(record) => fields.extend(record.iter().map(of_record)),
+                            None => fields.push((kind.to_string(), element)),
+                        }
+                    }
                 }
                 (None, None) => fields.push((kind.to_string(), field.to_string())),
             }

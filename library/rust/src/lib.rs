@@ -2,7 +2,8 @@
 //! whose check starts from ones) and HiRID (format 2).
 //!
 //! Safe Rust calls of the proved library, one for each call of `hansobrik.h`,
-//! named as there without the prefix. A call that can refuse gives a `Result`;
+//! named as there without the prefix; those of a pass's report stand in the
+//! module [`report`]. A call that can refuse gives a `Result`;
 //! a refused call changes no buffer, no state and no assembly. Its refusals are
 //! named, as constants of [`Refusal`], in the order in which they are tested.
 //!
@@ -47,6 +48,7 @@
 #![no_std]
 
 pub mod raw;
+pub mod report;
 
 mod assembly;
 mod documentation;

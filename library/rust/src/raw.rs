@@ -52,6 +52,43 @@ pub struct Assembly {
     pub manam: u16,
 }
 
+/// A sector over all lines of a report.
+#[repr(C)]
+#[derive(Clone, Copy, Debug, Default, PartialEq, Eq)]
+pub struct SectorTally {
+    /// Lines in which it was accepted,
+    pub accepted: u64,
+    /// refused with REMAINDER,
+    pub remainder: u64,
+    /// and refused with ID.
+    pub id: u64,
+    /// Its filler bits that were set, in lines that refused it too.
+    pub filler: u64,
+}
+
+/// The ten-bit pixels of an infrared channel over all lines of a report.
+#[repr(C)]
+#[derive(Clone, Copy, Debug, Default, PartialEq, Eq)]
+pub struct ChannelTally {
+    pub count: u64,
+    pub sum: u64,
+    pub least: u16,
+    pub largest: u16,
+    /// 1: least and largest hold. 0: there are no pixels. No other mark is
+    /// possible.
+    pub present: u32,
+}
+
+/// One record over all lines of a pass; 488 bytes without a gap. Every field 0
+/// is that of no line. Sector n stands at n - 1, IRn at n - 1.
+#[repr(C)]
+#[derive(Clone, Copy, Debug, Default, PartialEq, Eq)]
+pub struct PassReport {
+    pub lines: u64,
+    pub sectors: [SectorTally; 12],
+    pub channels: [ChannelTally; 4],
+}
+
 #[repr(C)]
 #[derive(Clone, Copy, Debug, Default, PartialEq, Eq)]
 pub struct FormatAnswer {
@@ -227,6 +264,13 @@ pub struct OrbitAnswer {
     pub node: f64,
     pub perigee: f64,
     pub anomaly: f64,
+}
+
+#[repr(C)]
+#[derive(Clone, Copy, Debug, Default, PartialEq, Eq)]
+pub struct ReportAnswer {
+    pub refused: u8,
+    pub report: PassReport,
 }
 
 // The version of the archive.
@@ -464,4 +508,16 @@ extern "C" {
         block: *const u8,
         block_count: usize,
     ) -> OrbitAnswer;
+}
+
+// The report of a pass.
+extern "C" {
+    pub fn hansobrik_empty_report() -> PassReport;
+    pub fn hansobrik_with_line(
+        format: u8,
+        report: PassReport,
+        line: *const u8,
+        line_count: usize,
+    ) -> ReportAnswer;
+    pub fn hansobrik_together(first: PassReport, second: PassReport) -> ReportAnswer;
 }

@@ -2,7 +2,7 @@
 
 use core::fmt;
 
-/// The number of a refusal, one of the fourteen below.
+/// The number of a refusal, one of the fifteen below.
 #[derive(Clone, Copy, Debug, PartialEq, Eq, Hash)]
 pub struct Refusal(pub u8);
 
@@ -11,6 +11,7 @@ impl Refusal {
     pub const FORMAT: Refusal = Refusal(1);
     pub const SETTING: Refusal = Refusal(13);
     pub const STATE: Refusal = Refusal(12);
+    pub const FULL: Refusal = Refusal(15);
     pub const NUMBER: Refusal = Refusal(4);
     pub const RANGE: Refusal = Refusal(10);
     pub const MAGNITUDE: Refusal = Refusal(11);
@@ -28,7 +29,10 @@ impl Refusal {
         match self {
             Refusal::FORMAT => "the format is none of 1, 2, 3",
             Refusal::SETTING => "the setting of a reader is above 6",
-            Refusal::STATE => "the reader's record, the register or the marks are impossible",
+            Refusal::STATE => {
+                "the reader's record, the register, the marks or a report are impossible"
+            }
+            Refusal::FULL => "the report would have over 100,000 lines",
             Refusal::NUMBER => {
                 "a sector, channel or block number that the call does not serve; \
                  calibration-2 in format 2"

@@ -53,6 +53,11 @@ pub const CALIBRATION_1_BYTES: usize = 6_400;
 pub const CALIBRATION_2_BYTES: usize = 25_600;
 pub const SEGMENTS: u8 = 25;
 
+/// IR1 to IR4.
+pub const CHANNELS: u8 = 4;
+/// The most lines of a report.
+pub const REPORT_LINES: u64 = 100_000;
+
 /// The marks of a finished block.
 pub const ALL_MARKS: u32 = 0x01FF_FFFF;
 /// The scrambling register before the first information bit.

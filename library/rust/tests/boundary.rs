@@ -1,6 +1,7 @@
 //! The calls through the boundary: a line there and back, every refusal, empty
 //! slices.
 
+use hansobrik::report::{Channel, Range, Report, Tally};
 use hansobrik::*;
 
 /// Bytes of a sector's data.
@@ -549,6 +550,152 @@ fn refused_segments_leave_assembly_and_block() {
     assert_eq!(short, Err(Refusal::SHORT_INPUT));
 }
 
+/// A record of so many lines in which every sector was accepted.
+fn all_accepted(lines: u64) -> Report {
+    let sector = Tally {
+        accepted: lines,
+        ..Tally::default()
+    };
+    Report {
+        lines,
+        sectors: [sector; 12],
+        channels: [Channel::default(); 4],
+    }
+}
+
+/// A channel of this line: all pixels the same.
+fn flat(pixel: u16) -> Channel {
+    Channel {
+        count: 2_291,
+        sum: 2_291 * u64::from(pixel),
+        range: Some(Range {
+            least: pixel,
+            largest: pixel,
+        }),
+    }
+}
+
+/// IR1 has 200 and 3 everywhere, 803, and IR4 1,023; IR2 lower is damaged; VIS1
+/// has two set filler bits.
+#[test]
+fn a_line_goes_into_a_report() {
+    for format in [S_VISSR, HIRID, S_VISSR_ONES] {
+        let mut line = line_of_zeros(format);
+        put_pixels(format, &mut line, 2, &[200; IR_PIXELS]).unwrap();
+        put_pixels(format, &mut line, 9, &[3; IR_PIXELS]).unwrap();
+        put_pixels_wide(format, &mut line, 12, &[1023; IR_PIXELS]).unwrap();
+        // IR2 lower begins with bit 316,534, and VIS1 ends before 138,692.
+        line[316_560 / 8] ^= 0x80;
+        line[138_680 / 8] |= 3;
+        let mut first = all_accepted(1);
+        first.sectors[4].filler = 2;
+        first.sectors[9].accepted = 0;
+        first.sectors[9].remainder = 1;
+        first.channels = [flat(803), Channel::default(), flat(0), flat(1023)];
+        assert_eq!(
+            report::with_line(format, &report::empty(), &line),
+            Ok(first)
+        );
+
+        let dark = line_of_zeros(format);
+        let second = report::with_line(format, &first, &dark).unwrap();
+        let mut expected = all_accepted(2);
+        expected.sectors[4].filler = 2;
+        expected.sectors[9].accepted = 1;
+        expected.sectors[9].remainder = 1;
+        let channel = |lines: u64, sum, largest| Channel {
+            count: 2_291 * lines,
+            sum,
+            range: Some(Range { least: 0, largest }),
+        };
+        expected.channels = [
+            channel(2, 1_839_673, 803),
+            channel(1, 0, 0),
+            channel(2, 0, 0),
+            channel(2, 2_343_693, 1023),
+        ];
+        assert_eq!(second, expected);
+
+        // The same as two passes, in either order.
+        let alone = report::with_line(format, &report::empty(), &dark).unwrap();
+        assert_eq!(report::together(&first, &alone), Ok(expected));
+        assert_eq!(report::together(&alone, &first), Ok(expected));
+
+        // A line of zero bytes has no ID but DOC's, and no pixels.
+        let bytes = report::with_line(format, &report::empty(), &[0; LINE_BYTES]).unwrap();
+        let ones = format == S_VISSR_ONES;
+        assert_eq!(bytes.sectors[11].remainder, u64::from(ones));
+        assert_eq!(bytes.sectors[11].id, u64::from(!ones));
+        assert_eq!(bytes.channels, [Channel::default(); 4]);
+        assert_eq!(
+            report::together(&bytes, &first).unwrap().channels,
+            first.channels
+        );
+    }
+}
+
+/// Refused with 1, 12, 15, 2, in this order; two reports with 12 and 15.
+#[test]
+fn reports_are_refused_in_their_order() {
+    let line = line_of_zeros(S_VISSR);
+    let short = &line[1..];
+    let mut wrong = all_accepted(REPORT_LINES);
+    wrong.sectors[11].id = 1;
+    let (full, last) = (all_accepted(REPORT_LINES), all_accepted(REPORT_LINES - 1));
+    for (format, report, line, refusal) in [
+        (0, &wrong, short, Refusal::FORMAT),
+        (S_VISSR, &wrong, short, Refusal::STATE),
+        (S_VISSR, &full, short, Refusal::FULL),
+        (S_VISSR, &last, short, Refusal::SHORT_INPUT),
+        (
+            S_VISSR,
+            &all_accepted(REPORT_LINES + 1),
+            &line,
+            Refusal::STATE,
+        ),
+        (HIRID, &full, &line, Refusal::FULL),
+    ] {
+        assert_eq!(report::with_line(format, report, line), Err(refusal));
+    }
+    let after = report::with_line(S_VISSR, &last, &line).unwrap();
+    assert_eq!(after.lines, 100_000);
+    assert_eq!(report::together(&full, &wrong), Err(Refusal::STATE));
+    assert_eq!(report::together(&wrong, &full), Err(Refusal::STATE));
+    let one = all_accepted(1);
+    assert_eq!(report::together(&full, &one), Err(Refusal::FULL));
+    assert_eq!(report::together(&last, &one), Ok(full));
+    assert_eq!(report::together(&full, &report::empty()), Ok(full));
+}
+
+/// Counts and sums at what the lines allow, and one above.
+#[test]
+fn impossible_reports() {
+    let mut brim = all_accepted(3);
+    for sector in &mut brim.sectors {
+        sector.filler = 3 * 2_048;
+    }
+    for channel in &mut brim.channels {
+        channel.count = 3 * 2_291;
+        channel.sum = 3 * 2_291 * 1_023;
+    }
+    let none = report::empty();
+    assert_eq!(none, Report::default());
+    assert_eq!(report::together(&brim, &none), Ok(brim));
+    let mut above = [brim; 6];
+    above[0].sectors[0].filler += 1;
+    above[1].channels[0].count += 1;
+    above[2].channels[3].sum += 1;
+    above[3].lines += 1;
+    above[4].sectors[6].remainder = 1;
+    // together 3 where a sum is cut to 64 bits
+    above[5].sectors[6].accepted = u64::MAX;
+    above[5].sectors[6].id = 4;
+    for report in &above {
+        assert_eq!(report::together(report, &none), Err(Refusal::STATE));
+        assert_eq!(report::together(&none, report), Err(Refusal::STATE));
+    }
+}
+
 #[test]
 fn empty_slices_are_looked_at_by_nobody() {
     let mut state = fresh();
@@ -568,6 +715,8 @@ fn empty_slices_are_looked_at_by_nobody() {
     assert_eq!(accepted(1, &[], 1), Err(Refusal::SHORT_INPUT));
     assert_eq!(answers(1, &[]), Err(Refusal::SHORT_INPUT));
     assert_eq!(filler(1, &[], 1), Err(Refusal::SHORT_INPUT));
+    let refused = report::with_line(1, &report::empty(), &[]);
+    assert_eq!(refused, Err(Refusal::SHORT_INPUT));
     assert_eq!(
         joined(1, &line_of_zeros(1), 1, &mut []),
         Err(Refusal::SHORT_OUTPUT)

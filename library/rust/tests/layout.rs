@@ -27,6 +27,9 @@ fn records_have_the_layout_of_the_header() {
         unread: 20, unread_count: 21, waiting: 22, waiting_count: 23,
     });
     laid_out!(Assembly, 8, 4, { marks: 0, calibration: 4, manam: 6 });
+    laid_out!(SectorTally, 32, 8, { accepted: 0, remainder: 8, id: 16, filler: 24 });
+    laid_out!(ChannelTally, 24, 8, { count: 0, sum: 8, least: 16, largest: 18, present: 20 });
+    laid_out!(PassReport, 488, 8, { lines: 0, sectors: 8, channels: 392 });
     laid_out!(FormatAnswer, 40, 8, {
         refused: 0, number: 1, check_start: 2, sync_bits: 8, information_bits: 16, dummy_bits: 24,
         bytes: 32,
@@ -59,4 +62,5 @@ fn records_have_the_layout_of_the_header() {
         refused: 0, epoch: 8, axis: 16, eccentricity: 24, inclination: 32, node: 40,
         perigee: 48, anomaly: 56,
     });
+    laid_out!(ReportAnswer, 496, 8, { refused: 0, report: 8 });
 }

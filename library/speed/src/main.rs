@@ -1,7 +1,7 @@
 //! How long the library's calls take, beside the second decoder doing the same
 //! work and beside a copy of the same number of bytes; the reader at its
-//! settings; and the count of filler bits beside the same in Rust. Tables in
-//! Markdown.
+//! settings; the count of filler bits beside the same in Rust; and the report of
+//! a line beside the checks that it makes. Tables in Markdown.
 //!
 //! `library/speed/before` runs it with the feature `before`: then the tables
 //! also have the times of the library at an earlier commit.
@@ -12,6 +12,7 @@ mod growth;
 mod input;
 mod library;
 mod ours;
+mod report;
 mod settings;
 mod table;
 mod theirs;
@@ -24,4 +25,5 @@ fn main() {
     growth::print();
     settings::print();
     filler::print();
+    report::print();
 }

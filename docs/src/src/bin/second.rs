@@ -8,30 +8,60 @@
 //! - `second fields [FORMAT [SETTING]] < recording` writes the documentation
 //!   fields of every line, then what the assembled blocks say; see
 //!   `second::fields`.
+//! - `second report [FORMAT [SETTING]] < recording` writes the report of a
+//!   recording; see `second::report`. Where it has over 100,000 lines nothing is
+//!   written and the status is 1.
+//! - `second damaged N FORMAT` writes the recording of `signal N FORMAT` with
+//!   damage in its sectors; `second::damage` says exactly which.
 //! - `second vectors` prints worked values of the paper's edges.
 //! - `second zeros` writes one line of zeros with right IDs, check words and
 //!   filler, in format 1.
 
 use std::error::Error;
+use std::fmt;
 use std::io::{self, Read, Write};
 use std::process::ExitCode;
 
 use second::fields::Fields;
 use second::listing::Listing;
+use second::report::{self, Pass};
 use second::scramble::TAIL_BITS;
-use second::{pattern, reader, refusal, vectors};
+use second::{damage, pattern, reader, refusal, vectors};
 
 const USAGE: &str = "usage: second signal N FORMAT [W [T]]
        second listing [FORMAT [SETTING]] < recording
        second fields [FORMAT [SETTING]] < recording
+       second report [FORMAT [SETTING]] < recording
+       second damaged N FORMAT
        second vectors
        second zeros
 FORMAT is 1 (S-VISSR), 2 (HiRID) or 3 (S-VISSR, the check from ones)";
 
 type Outcome = Result<(), Box<dyn Error>>;
 
+/// A refusal that ends the program.
+#[derive(Debug)]
+struct Refused(refusal::Refusal);
+
+impl fmt::Display for Refused {
+    fn fmt(&self, f: &mut fmt::Formatter<'_>) -> fmt::Result {
+        write!(f, "refusal {}", self.0)
+    }
+}
+
+impl Error for Refused {}
+
 fn refused(number: refusal::Refusal) -> Box<dyn Error> {
-    format!("refusal {number}").into()
+    Refused(number).into()
+}
+
+/// The exit status of an error: 1 for a recording with too many lines for a
+/// report, which is nobody's mistake, 2 for all others.
+fn status(error: &(dyn Error + 'static)) -> u8 {
+    match error.downcast_ref() {
+        Some(Refused(refusal::FULL)) => 1,
+        _ => 2,
+    }
 }
 
 fn signal(lines: u64, format: usize, wrong: usize, tables: u64) -> Outcome {
@@ -101,6 +131,24 @@ fn fields(format: usize, setting: usize) -> Outcome {
     print(fields.end())
 }
 
+fn report(format: usize, setting: usize) -> Outcome {
+    served(format, setting)?;
+    let mut pass = Pass::new(format, setting);
+    follow(|piece| pass.feed(piece).map(|()| vec![]))?;
+    tell(pass.unfinished());
+    print(report::rows(&pass.report))
+}
+
+fn damaged(lines: u64, format: usize) -> Outcome {
+    second::format::format(format).map_err(refused)?;
+    let mut out = io::stdout().lock();
+    for k in 0..lines {
+        let line = damage::damaged_line(format, k).map_err(refused)?;
+        out.write_all(&pattern::on_the_wire(format, &line).map_err(refused)?)?;
+    }
+    Ok(out.flush()?)
+}
+
 fn zeros() -> Outcome {
     let line = pattern::line_of_zeros(1).map_err(refused)?;
     let wire = pattern::on_the_wire(1, &line).map_err(refused)?;
@@ -125,6 +173,10 @@ fn run(words: &[&str]) -> Outcome {
         ["fields"] => fields(1, 0),
         ["fields", format] => fields(format.parse()?, 0),
         ["fields", format, setting] => fields(format.parse()?, setting.parse()?),
+        ["report"] => report(1, 0),
+        ["report", format] => report(format.parse()?, 0),
+        ["report", format, setting] => report(format.parse()?, setting.parse()?),
+        ["damaged", lines, format] => damaged(lines.parse()?, format.parse()?),
         ["vectors"] => print(vectors::rows()),
         ["zeros"] => zeros(),
         _ => Err(USAGE.into()),
@@ -138,7 +190,23 @@ fn main() -> ExitCode {
         Ok(()) => ExitCode::SUCCESS,
         Err(error) => {
             eprintln!("{error}");
-            ExitCode::from(2)
+            ExitCode::from(status(error.as_ref()))
         }
+    }
+}
+
+#[cfg(test)]
+mod tests {
+    use super::*;
+
+    /// A recording of 100,001 lines has 4.5 GB, so the error alone is looked at.
+    #[test]
+    fn a_report_that_is_full_has_a_status_of_its_own() {
+        let full = refused(refusal::FULL);
+        assert_eq!(full.to_string(), "refusal 15");
+        assert_eq!(status(full.as_ref()), 1);
+        assert_eq!(status(refused(refusal::FORMAT).as_ref()), 2);
+        assert_eq!(status(run(&["report", "7"]).unwrap_err().as_ref()), 2);
+        assert_eq!(status(run(&["reports"]).unwrap_err().as_ref()), 2);
     }
 }

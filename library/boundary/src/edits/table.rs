@@ -5,7 +5,7 @@ use crate::calls::ORDERS;
 use crate::header::FILE as HEADER;
 use crate::numbers::{NAMED, NUMBERS, ORDER, TABLE};
 use crate::rust::{DOCUMENTATION, RAW, REFUSAL, SIZES};
-use crate::sizes::{BLOCK, FORMATS, LAYOUT, READER};
+use crate::sizes::{BLOCK, FORMATS, LAYOUT, READER, REPORT};
 use crate::version::MANIFEST;
 
 const GROUND: &str = "crates/rack_ground/src/lib.rt";
@@ -106,6 +106,27 @@ pub const EDITS: &[Edit] = &[
         )],
         &["hansobrik_more: the source has no such struct"],
     ),
+    texts(
+        &[(HEADER, "uint32_t present; /*", "uint16_t present; /*")],
+        &[
+            "hansobrik_channel_tally: field 5",
+            "uint16_t present",
+            "uint32_t present",
+            "rack_report",
+        ],
+    ),
+    texts(
+        &[(
+            HEADER,
+            "hansobrik_sector_tally sectors[12];",
+            "hansobrik_sector_tally sectors[11];",
+        )],
+        &[
+            "hansobrik_pass_report: field 2",
+            "sectors[11]",
+            "sectors[12]",
+        ],
+    ),
     // functions of the header
     texts(
         &[(
@@ -203,6 +224,14 @@ pub const EDITS: &[Edit] = &[
             "hansobrik_assembly assembly",
         ],
     ),
+    texts(
+        &[(
+            HEADER,
+            "hansobrik_together(hansobrik_pass_report first, hansobrik_pass_report second)",
+            "hansobrik_together(hansobrik_pass_report second, hansobrik_pass_report first)",
+        )],
+        &["hansobrik_together: parameter 1", "second", "first"],
+    ),
     // structs and functions of Rust
     texts(
         &[(RAW, "pub magnitude: u64,", "pub magnitude: u32,")],
@@ -269,6 +298,18 @@ pub const EDITS: &[Edit] = &[
         &[
             "hansobrik_fresh_assembly gives u64",
             "Assembly by the source",
+        ],
+    ),
+    texts(
+        &[(
+            RAW,
+            "pub channels: [ChannelTally; 4],",
+            "pub channels: [SectorTally; 4],",
+        )],
+        &[
+            "PassReport: field 3",
+            "channels: [SectorTally; 4]",
+            "channels: [ChannelTally; 4]",
         ],
     ),
     // the Rattle text
@@ -454,6 +495,17 @@ pub const EDITS: &[Edit] = &[
         ],
     ),
     texts(
+        &[(
+            HEADER,
+            "Refused: FORMAT, STATE, FULL, SHORT_INPUT.",
+            "Refused: FORMAT, FULL, STATE, SHORT_INPUT.",
+        )],
+        &[
+            "hansobrik_with_line: refused with (FORMAT, FULL, STATE, SHORT_INPUT) by its comment",
+            "(FORMAT, STATE, FULL, SHORT_INPUT) by",
+        ],
+    ),
+    texts(
         &[(HEADER, "first bit. Never refused.", "first bit.")],
         &["the comment of hansobrik_fresh names no refusals"],
     ),
@@ -537,6 +589,18 @@ pub const EDITS: &[Edit] = &[
             "LARGEST_SETTING: u8 = 7;",
         )],
         &["HANSOBRIK_LARGEST_SETTING is 6, but 7", READER],
+    ),
+    texts(
+        &[(
+            REPORT,
+            "MOST_LINES: u64 = 100000;",
+            "MOST_LINES: u64 = 100001;",
+        )],
+        &["HANSOBRIK_REPORT_LINES is 100000, but 100001", REPORT],
+    ),
+    texts(
+        &[(SIZES, "CHANNELS: u8 = 4;", "CHANNELS: u8 = 3;")],
+        &[SIZES, "CHANNELS is 3, but 4", "rack_report"],
     ),
     texts(
         &[(BLOCK, "size: 10250,", "size: 10225,")],
@@ -634,6 +698,13 @@ pub const EDITS: &[Edit] = &[
         &[
             "by rustc:",
             "the offset of raw::FormatAnswer.check_start is 4, but 2 by the source",
+        ],
+    ),
+    compilers(
+        &[(RAW, "pub least: u16,", "pub least: u32,")],
+        &[
+            "by rustc:",
+            "the size of raw::PassReport is 520, but 488 by the source",
         ],
     ),
     compilers(

@@ -2,6 +2,8 @@
 
 use hansobrik::raw::*;
 
+use crate::report::Report;
+
 /// The reader's record out of its fields.
 pub fn state(n: &[u64]) -> State {
     State {
@@ -44,6 +46,44 @@ pub fn assembly(n: &[u64]) -> Assembly {
 /// The fields of an assembly's record.
 pub fn assembled(a: Assembly) -> Vec<u64> {
     vec![a.marks.into(), a.calibration.into(), a.manam.into()]
+}
+
+/// A report out of its numbers.
+pub fn pass_report(n: &[u64]) -> PassReport {
+    let report = Report::of(n);
+    PassReport {
+        lines: report.lines,
+        sectors: report
+            .sectors
+            .map(|[accepted, remainder, id, filler]| SectorTally {
+                accepted,
+                remainder,
+                id,
+                filler,
+            }),
+        channels: report
+            .channels
+            .map(|[count, sum, least, largest, present]| ChannelTally {
+                count,
+                sum,
+                least: least as u16,
+                largest: largest as u16,
+                present: present as u32,
+            }),
+    }
+}
+
+/// The numbers of a report.
+pub fn report(r: PassReport) -> Vec<u64> {
+    let report = Report {
+        lines: r.lines,
+        sectors: r.sectors.map(|s| [s.accepted, s.remainder, s.id, s.filler]),
+        channels: r.channels.map(|c| {
+            let pair = [c.least, c.largest].map(u64::from);
+            [c.count, c.sum, pair[0], pair[1], c.present.into()]
+        }),
+    };
+    report.numbers()
 }
 
 pub fn alone(refused: u8) -> Vec<u64> {
@@ -181,4 +221,8 @@ pub fn orbit(a: OrbitAnswer) -> Vec<u64> {
         a.anomaly,
     ];
     [vec![a.refused.into()], elements.map(f64::to_bits).to_vec()].concat()
+}
+
+pub fn reported(a: ReportAnswer) -> Vec<u64> {
+    [vec![a.refused.into()], report(a.report)].concat()
 }

@@ -9,6 +9,7 @@ use super::answers::*;
 use crate::call::{Call, Outcome};
 use crate::fence::making;
 use crate::guard::{outcome, Guarded};
+use crate::report::NUMBERS;
 use crate::rows::Name;
 
 thread_local! {
@@ -32,7 +33,7 @@ pub fn through_rust(call: &Call) -> Outcome {
 /// Makes the call, and lays its answer out.
 fn made(call: &Call, [one, two]: &[Guarded; 2]) -> Vec<u64> {
     // numbers that a call does not have are 0 here, and not handed on
-    let mut n = [0; 11];
+    let mut n = [0; 2 * NUMBERS];
     n[..call.numbers.len()].copy_from_slice(&call.numbers);
     let (b0, b1, b3, b4) = (n[0] as u8, n[1] as u8, n[3] as u8, n[4] as u8);
     let (n0, n1, n2) = (n[0] as usize, n[1] as usize, n[2] as usize);
@@ -85,6 +86,12 @@ fn made(call: &Call, [one, two]: &[Guarded; 2]) -> Vec<u64> {
             Name::Temperature => level(hansobrik_temperature(b0, kept, p, c, b4, h5)),
             Name::TemperatureF64 => level_float(hansobrik_temperature_f64(b0, kept, p, c, b4, h5)),
             Name::Elements => orbit(hansobrik_elements(b0, kept, p, c)),
+            Name::EmptyReport => report(hansobrik_empty_report()),
+            Name::WithLine => reported(hansobrik_with_line(b0, pass_report(&n[1..]), p, c)),
+            Name::Together => {
+                let (first, second) = (pass_report(&n), pass_report(&n[NUMBERS..]));
+                reported(hansobrik_together(first, second))
+            }
         }
     }
 }

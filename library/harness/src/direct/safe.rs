@@ -1,11 +1,15 @@
 //! The safe functions of the crate `hansobrik`. A `Result` is turned into the
 //! fields of the answer; the two records, which they change in place, are taken
-//! as they stand after the call, refused or not.
+//! as they stand after the call, refused or not. A report is not changed in
+//! place, and one with a wrong mark cannot be said there: such a call is made by
+//! the declarations once more.
 
 use hansobrik::{self as safe, Refusal};
 
 use super::answers::{assembled, assembly, record, state};
+use super::raw::through_rust;
 use crate::call::{Call, Lent, Outcome};
+use crate::report::{Report, NUMBERS};
 use crate::rows::Name;
 
 /// The fields of an answer behind `refused`, or the refusal.
@@ -15,11 +19,15 @@ type Answer = Result<Vec<u64>, Refusal>;
 pub fn through_safe(call: &Call) -> Outcome {
     let mut lent = call.lent.clone();
     let n = call.numbers.as_slice();
+    if reports(call).iter().any(Report::has_wrong_mark) {
+        return through_rust(call);
+    }
     let numbers = match call.name {
-        // these three cannot be refused
+        // these four cannot be refused
         Name::Version => vec![safe::version().into()],
         Name::Fresh => record(safe::fresh()),
         Name::FreshAssembly => assembled(safe::fresh_assembly()),
+        Name::EmptyReport => report(safe::report::empty()),
         // and these two change what the caller keeps
         Name::Read => read(n, &mut lent),
         Name::AddSegment => add_segment(n, &mut lent),
@@ -32,6 +40,16 @@ pub fn through_safe(call: &Call) -> Outcome {
         numbers,
         lent,
         harm: None,
+    }
+}
+
+/// The reports that are handed in.
+fn reports(call: &Call) -> Vec<Report> {
+    let n = call.numbers.as_slice();
+    match call.name {
+        Name::WithLine => vec![Report::of(&n[1..])],
+        Name::Together => vec![Report::of(n), Report::of(&n[NUMBERS..])],
+        _ => vec![],
     }
 }
 
@@ -85,12 +103,60 @@ fn of_numbers(name: Name, n: &[u64]) -> Answer {
             ]
         }),
         Name::Stepped => safe::stepped(n[0] as u16).map(step),
+        Name::Together => {
+            safe::report::together(&safe_report(n), &safe_report(&n[NUMBERS..])).map(report)
+        }
         _ => panic!("{name:?} has a buffer"),
     }
 }
 
 fn step(step: safe::Step) -> Vec<u64> {
     vec![step.bit.into(), step.register.into()]
+}
+
+/// A report out of its numbers. What stands beside a mark of 0 is nowhere.
+fn safe_report(n: &[u64]) -> safe::report::Report {
+    let report = Report::of(n);
+    safe::report::Report {
+        lines: report.lines,
+        sectors: report
+            .sectors
+            .map(|[accepted, remainder, id, filler]| safe::report::Tally {
+                accepted,
+                remainder,
+                id,
+                filler,
+            }),
+        channels: report
+            .channels
+            .map(|[count, sum, least, largest, present]| {
+                let range = safe::report::Range {
+                    least: least as u16,
+                    largest: largest as u16,
+                };
+                safe::report::Channel {
+                    count,
+                    sum,
+                    range: (present == 1).then_some(range),
+                }
+            }),
+    }
+}
+
+/// The numbers of a report.
+fn report(report: safe::report::Report) -> Vec<u64> {
+    let report = Report {
+        lines: report.lines,
+        sectors: report
+            .sectors
+            .map(|s| [s.accepted, s.remainder, s.id, s.filler]),
+        channels: report.channels.map(|c| {
+            let (least, largest) = c.range.map_or((0, 0), |r| (r.least, r.largest));
+            let present = c.range.is_some();
+            [c.count, c.sum, least.into(), largest.into(), present.into()]
+        }),
+    };
+    report.numbers()
 }
 
 /// The number of each sector's answer, 0 where it is accepted.
@@ -106,6 +172,9 @@ fn of_one(name: Name, n: &[u64], lent: &mut Lent) -> Answer {
         Name::Accepted => safe::accepted(n[0] as u8, lent.bytes(), n[1] as u8).map(none),
         Name::Answers => safe::answers(n[0] as u8, lent.bytes()).map(numbers),
         Name::Filler => safe::filler(n[0] as u8, lent.bytes(), n[1] as u8).map(count),
+        Name::WithLine => {
+            safe::report::with_line(n[0] as u8, &safe_report(&n[1..]), lent.bytes()).map(report)
+        }
         Name::ReadInteger => safe::read_integer(lent.bytes(), n[0] as usize).map(integer),
         Name::ReadBcd => safe::read_bcd(lent.bytes(), n[0] as usize).map(bcd),
         Name::ReadReal => safe::read_real(lent.bytes(), n[0] as usize, n[1] as u8).map(real),

@@ -7,6 +7,7 @@ mod documentation;
 mod ground;
 mod number;
 mod recording;
+mod report;
 mod sector;
 
 use second::refusal::Refusal;
@@ -21,10 +22,11 @@ type Answer = Result<Vec<u64>, Refusal>;
 pub fn expected(call: &Call) -> Outcome {
     let mut lent = call.lent.clone();
     let numbers = match call.name {
-        // these three have no `refused`
+        // these four have no `refused`
         Name::Version => ground::version(),
         Name::Fresh => recording::fresh(),
         Name::FreshAssembly => assembly::fresh(),
+        Name::EmptyReport => report::empty(),
         _ => match answer(call, &mut lent) {
             Ok(fields) => [vec![0], fields].concat(),
             Err(number) => call.refused(number),
@@ -79,7 +81,9 @@ fn answer(call: &Call, lent: &mut [Lent]) -> Answer {
         Name::Temperature => assembly::temperature(n, lent),
         Name::TemperatureF64 => assembly::temperature_f64(n, lent),
         Name::Elements => assembly::elements(n, lent),
-        Name::Version | Name::Fresh | Name::FreshAssembly => {
+        Name::WithLine => report::with_line(n, lent),
+        Name::Together => report::together(n),
+        Name::Version | Name::Fresh | Name::FreshAssembly | Name::EmptyReport => {
             unreachable!("they cannot be refused")
         }
     }

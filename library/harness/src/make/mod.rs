@@ -11,6 +11,7 @@ mod ground;
 mod number;
 mod record;
 mod recording;
+mod report;
 mod sector;
 mod wild;
 
@@ -84,7 +85,7 @@ impl Maker {
             Name::Stepped => self.stepped(faults),
             Name::Step => self.step(faults),
             Name::PutSync => self.put_sync(faults),
-            Name::Version | Name::Fresh | Name::FreshAssembly => {
+            Name::Version | Name::Fresh | Name::FreshAssembly | Name::EmptyReport => {
                 Asked::planned(Call::new(name, &[], vec![]), faults)
             }
             Name::Read => self.read(faults),
@@ -118,6 +119,8 @@ impl Maker {
                 self.level(name, faults)
             }
             Name::Elements => self.elements(faults),
+            Name::WithLine => self.with_line(faults),
+            Name::Together => self.together(faults),
         }
     }
 }
@@ -126,14 +129,15 @@ impl Maker {
 /// takes milliseconds for whole lines, so these calls are the rarer ones.
 fn weight(name: Name) -> usize {
     match name {
-        Name::Version | Name::Fresh | Name::FreshAssembly => 1,
+        Name::Version | Name::Fresh | Name::FreshAssembly | Name::EmptyReport => 1,
         Name::WriteLine | Name::Strip | Name::Answers => 4,
+        Name::WithLine => 6,
         Name::Joined | Name::PutSync | Name::Format => 10,
         Name::PutData | Name::PutPixels | Name::PutPixelsWide => 12,
         Name::Accepted | Name::Data | Name::Pixels | Name::PixelsWide => 20,
         Name::Stepped | Name::Step | Name::LineNumbers => 20,
         Name::Filler | Name::ScanMode | Name::ScannerSelect | Name::SubCommutation => 30,
-        Name::Date | Name::Revision => 40,
+        Name::Date | Name::Revision | Name::Together => 40,
         Name::IntegerField | Name::BcdField | Name::RealField | Name::F64Field => 30,
         Name::Mapping | Name::Albedo | Name::AlbedoF64 => 40,
         Name::Temperature | Name::TemperatureF64 | Name::Elements => 40,

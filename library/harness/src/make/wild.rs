@@ -15,7 +15,7 @@ const LENGTHS: [usize; 22] = [
 ];
 
 /// Numbers of 64 bits that some call looks at.
-const NUMBERS: [u64; 12] = [
+const NUMBERS: [u64; 13] = [
     0,
     1,
     4,
@@ -23,6 +23,7 @@ const NUMBERS: [u64; 12] = [
     16,
     2_290,
     2_293,
+    100_000,
     354_847,
     1 << 31,
     1 << 32,
@@ -33,18 +34,19 @@ const NUMBERS: [u64; 12] = [
 impl Maker {
     pub fn wild(&mut self, name: Name) -> Call {
         let row = &ROWS[name as usize];
-        let numbers: Vec<u64> = row
-            .numbers
-            .iter()
-            .map(|(what, bits)| self.wild_number(what, *bits))
-            .collect();
+        let each = |(what, bits): &(&str, u32)| self.wild_number(what, *bits);
+        let numbers: Vec<u64> = match name {
+            Name::WithLine => [vec![self.wild_number("format", 8)], self.wild_report()].concat(),
+            Name::Together => [self.wild_report(), self.wild_report()].concat(),
+            _ => row.numbers.iter().map(each).collect(),
+        };
         let lent = row.lent.iter().map(|part| self.wild_buffer(part));
         let lent = lent.collect();
         Call::new(name, &numbers, lent)
     }
 
     /// An edge, one beside it, or any number of so many bits.
-    fn wild_number(&mut self, what: &str, bits: u32) -> u64 {
+    pub fn wild_number(&mut self, what: &str, bits: u32) -> u64 {
         let any = self.dice.of_any_length(bits);
         match (what, bits) {
             ("format", _) => self.dice.pick(&[1, 1, 1, 2, 2, 3, 3, 3, 0, 4, any]),

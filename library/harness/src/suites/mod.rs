@@ -7,6 +7,7 @@ pub mod grid;
 pub mod ones;
 mod reading;
 mod recordings;
+pub mod reports;
 mod sets;
 mod sweeps;
 pub mod tables;
@@ -26,6 +27,7 @@ pub fn run(bench: &mut Bench, maker: &mut Maker, rounds: u64) -> Result<(), Diff
         blocks::run(bench, maker)?;
         tables::run(bench, maker)?;
         ones::run(bench, maker)?;
+        reports::run(bench, maker)?;
         fillers::run(bench, maker, round == 1)?;
     }
     Ok(())

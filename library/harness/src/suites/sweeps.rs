@@ -20,16 +20,26 @@ fn bases(name: Name) -> usize {
     }
 }
 
+/// Of a report, which has many numbers, the powers of two that are tried.
+const FEW_POWERS: [u32; 6] = [0, 1, 16, 17, 32, 63];
+
+fn powers(name: Name, bits: u32) -> Vec<u32> {
+    match name {
+        Name::WithLine | Name::Together => FEW_POWERS.into_iter().filter(|p| *p < bits).collect(),
+        _ => (0..bits).collect(),
+    }
+}
+
 /// What is tried for a number of so many bits.
-fn values(bits: u32) -> Vec<u64> {
+fn values(name: Name, bits: u32) -> Vec<u64> {
     match bits {
         8 => (0..256).collect(),
         16 => OF_16_BITS.to_vec(),
         1 => vec![0, 1],
-        // around every power of two, and around the places of a line
+        // around the powers of two, the places of a line and the lines of a report
         bits => {
-            let powers = (0..bits).map(|power| 1u64 << power);
-            let edges = powers.chain([2_290, 2_293, 354_847, 0]);
+            let powers = powers(name, bits).into_iter().map(|power| 1u64 << power);
+            let edges = powers.chain([2_290, 2_293, 100_000, 354_847, 0]);
             let limit = u64::MAX >> (64 - bits);
             let around = |edge: u64| (0..5).map(move |d| edge.wrapping_add(d).wrapping_sub(2));
             edges.flat_map(around).map(|value| value & limit).collect()
@@ -50,7 +60,7 @@ fn resized(lent: &Lent, length: usize) -> Lent {
 fn sweep(bench: &mut Bench, base: &Call) -> Result<(), Difference> {
     let row = base.row();
     for (i, (_, bits)) in row.numbers.iter().enumerate() {
-        for value in values(*bits) {
+        for value in values(row.name, *bits) {
             let mut call = base.clone();
             call.numbers[i] = value;
             bench.call(call)?;

@@ -1,0 +1,4 @@
+pub mod Rows
+pub mod Ranges
+pub mod Adding
+pub mod Possible
