@@ -1,31 +1,13 @@
--- Two parts joined, pixel by pixel: the loop that joins them, and the sectors of a channel. Assumes nothing.
+-- Two parts joined, pixel by pixel: the loop that joins them. Assumes nothing.
 use mathlib.Core.Path.{_≡_, refl, sym, ap, ap₂, _∙_}
 use mathlib.Core.List.{List, [], _∷_, _++_}
-use Prim.Native.Nat.{ℕ, suc, _+_, _*_, _≤_, _<_}
-use native.Mathlib.Nat.{suc-inj, suc-ne-zero}
-use native.Mathlib.Omega.{arith}
+use Prim.Native.Nat.{ℕ, _+_, _*_, _<_}
 use lib.ListN.{length, drop, set}
 use Rattle.bits.specs.Bits.{bitsOf, part, numberOf, fieldsOf}
 use Rattle.bits.proofs.Fields.{length-fields, field-turn}
 use Rattle.bits.proofs.Writes.{grow}
-use Rattle.sectors.specs.Layout.{sectors, layoutOf}
 use Rattle.sectors.specs.Sector.{joinedPixel, joinedOf}
-use Rattle.sectors.proofs.Rows.{Each, among}
-use Rattle.channels.specs.Join.{upperOf, lowerOf}
-
-pub length-joined : (xs ys : List ℕ) → length xs ≡ length ys → length (joinedOf xs ys) ≡ length xs
-unfolding joinedOf
-length-joined [] ys e = refl
-length-joined (x ∷ xs) [] e = absurd (suc-ne-zero (length xs) e)
-length-joined (x ∷ xs) (y ∷ ys) e = ap suc (length-joined xs ys (suc-inj e))
-
--- one pixel more, at the end
-pub joined-more : (xs ys : List ℕ) (x y : ℕ) → length xs ≡ length ys → joinedOf (xs ++ (x ∷ [])) (ys ++ (y ∷ [])) ≡ joinedOf xs ys ++ (joinedPixel x y ∷ [])
-unfolding joinedOf
-joined-more [] [] x y e = refl
-joined-more [] (v ∷ ys) x y e = absurd (suc-ne-zero (length ys) (sym e))
-joined-more (u ∷ xs) [] x y e = absurd (suc-ne-zero (length xs) e)
-joined-more (u ∷ xs) (v ∷ ys) x y e = ap (λ (l : List ℕ). joinedPixel u v ∷ l) (joined-more xs ys x y (suc-inj e))
+use Rattle.sectors.proofs.Pairs.{length-joined, joined-more}
 
 -- THE TURN of the loop: what stands in the output once i pixels are joined
 pub joining : List ℕ → ℕ → ℕ → ℕ → List ℕ
@@ -52,18 +34,3 @@ joining-turn s upper lower i high low out eh el h =
     grow (joinedOf xs ys) (joinedPixel x y) out i (length-joined xs ys (lx ∙ sym ly) ∙ lx) h
     ∙ ap (λ (l : List ℕ). l ++ drop (i + 1) out)
     (sym (ap₂ joinedOf (field-turn s upper 8 i high eh) (field-turn s lower 2 i low el) ∙ joined-more xs ys x y (lx ∙ sym ly)))
-
--- ---- the sectors of a channel
-
--- an upper sector is eight bits wide, a lower one two, and both have as many pixels
-pub upper-wide : (n : ℕ) → 1 ≤ n → n ≤ 3 → upperOf n .width ≡ 8
-unfolding Each layoutOf sectors
-upper-wide n lo hi = among (λ n. upperOf n .width ≡ 8) 1 3 n (refl, (refl, (refl, tt))) lo (omega arith)
-
-pub lower-wide : (n : ℕ) → 1 ≤ n → n ≤ 3 → lowerOf n .width ≡ 2
-unfolding Each layoutOf sectors
-lower-wide n lo hi = among (λ n. lowerOf n .width ≡ 2) 1 3 n (refl, (refl, (refl, tt))) lo (omega arith)
-
-pub as-many : (n : ℕ) → 1 ≤ n → n ≤ 3 → lowerOf n .count ≡ upperOf n .count
-unfolding Each layoutOf sectors
-as-many n lo hi = among (λ n. lowerOf n .count ≡ upperOf n .count) 1 3 n (refl, (refl, (refl, tt))) lo (omega arith)

@@ -1,22 +1,14 @@
 -- IR1-3 at ten bits: what the call answers, and what it leaves in its lent slice, for every input. Assumes nothing.
-use Prim.Native.Nat.{ℕ, _+_}
+use Prim.Native.Nat.{ℕ}
 use mathlib.Core.List.{List, _++_}
 use lib.ListN.{length, drop}
 use Rattle.refusals.specs.Refusals.{first, kept}
 use Rattle.formats.specs.Formats.{checkStart}
 use Rattle.bits.specs.Bits.{bitsOf}
-use Rattle.sectors.specs.declared.layout.Layout.{Layout}
-use Rattle.sectors.specs.Layout.{layoutOf}
+use Rattle.sectors.specs.Layout.{upperOf, lowerOf}
 use Rattle.sectors.specs.Asked.{lineRefusal}
 use Rattle.sectors.specs.Sector.{answerOf, pixelsOf, joinedOf}
 use Rattle.pixels.specs.Calls.{valuesRefusal}
-
--- channel 1 to 3: its upper part is sector 2 to 4, its lower one sector 9 to 11
-abbrev pub upperOf : ℕ → Layout
-upperOf channel = layoutOf (channel + 1)
-
-abbrev pub lowerOf : ℕ → Layout
-lowerOf channel = layoutOf (channel + 8)
 
 -- 1, 4, 2, 3, the upper sector's 5 and 6, the lower one's 5 and 6
 unfoldable pub joinedAnswer : ℕ → List ℕ → ℕ → ℕ → ℕ

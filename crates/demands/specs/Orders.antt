@@ -19,11 +19,11 @@ use Rattle.reader_record.specs.declared.State.{State}
 use Rattle.reader.specs.Read.{largestSetting, readRefusal}
 use Rattle.writer.specs.Wire.{writeLineRefusal}
 use Rattle.sectors.specs.declared.layout.Layout.{Layout}
-use Rattle.sectors.specs.Layout.{layoutOf, bytesOf}
+use Rattle.sectors.specs.Layout.{layoutOf, upperOf, lowerOf, bytesOf}
 use Rattle.sectors.specs.Sector.{coveredOf, idOf}
 use Rattle.sectors.specs.Calls.{acceptedAnswer, answersRefusal, fillerRefusal}
 use Rattle.pixels.specs.Calls.{dataAnswer, pixelsAnswer}
-use Rattle.channels.specs.Join.{upperOf, lowerOf, joinedAnswer}
+use Rattle.channels.specs.Join.{joinedAnswer}
 use Rattle.visible.specs.Strip.{stripBytes, stripRefusal}
 use Rattle.sector_writer.specs.Calls.{putDataAnswer, putPixelsAnswer}
 use Rattle.report_record.specs.declared.Report.{Report}

@@ -17,9 +17,8 @@ use Rattle.bits.proofs.Fields.{length-fields}
 use Rattle.crc.specs.Remainder.{remainderOf}
 use Rattle.sectors.specs.declared.layout.Layout.{Layout}
 use Rattle.refusals.specs.Refusals.{first, when}
-use Rattle.sectors.specs.Layout.{layoutOf, dataAt, fillerAt, fillerBits}
+use Rattle.sectors.specs.Layout.{layoutOf, upperOf, lowerOf, dataAt, fillerAt, fillerBits}
 use Rattle.sectors.specs.Sector.{coveredOf, idOf, answerOf, fillerOf, dataBitsOf, pixelsOf, joinedOf}
-use Rattle.channels.specs.Join.{upperOf, lowerOf}
 use Rattle.report_record.specs.declared.Report.{Report}
 use Rattle.report_record.specs.declared.Channel.{Channel}
 use Rattle.report_record.specs.declared.Tally.{Tally}

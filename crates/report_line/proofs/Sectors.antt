@@ -12,14 +12,13 @@ use Rattle.refusals.specs.Refusals.{first, when}
 use Rattle.formats.specs.Formats.{lineBytes}
 use Rattle.bits.specs.Bits.{bitsOf, fieldsOf}
 use Rattle.sectors.specs.declared.layout.Layout.{Layout}
-use Rattle.sectors.specs.Layout.{sectors, layoutOf, dataAt, Sound}
+use Rattle.sectors.specs.Layout.{sectors, layoutOf, upperOf, lowerOf, dataAt, Sound}
 use Rattle.sectors.specs.Sector.{coveredOf, idOf, answerOf, fillerOf, pixelsOf, joinedOf}
 use Rattle.sectors.proofs.Table.{sound}
 use Rattle.sectors.proofs.Rows.{Each, among}
 use Rattle.crc.specs.Remainder.{remainderOf}
 use Rattle.pixels.proofs.Unpacked.{pixels-here}
-use Rattle.channels.specs.Join.{upperOf, lowerOf}
-use Rattle.channels.proofs.Joined.{upper-wide, lower-wide}
+use Rattle.sectors.proofs.Pairs.{upper-wide, lower-wide}
 use Rattle.report_record.specs.declared.Tally.{Tally}
 use Rattle.report_record.specs.declared.Channel.{Channel}
 use Rattle.report_record.specs.Sums.{totalOf, rowOf}

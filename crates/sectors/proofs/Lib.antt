@@ -5,3 +5,4 @@ pub mod Bounds
 pub mod Answers
 pub mod AtOnce
 pub mod Settled
+pub mod Pairs

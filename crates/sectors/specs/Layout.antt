@@ -36,6 +36,13 @@ none = row 0 0 0 0 0 0 0
 unfoldable pub layoutOf : ℕ → Layout
 layoutOf n = getD sectors (n - 1) none
 
+-- IR1-3, channel 1 to 3: its upper part is sector 2 to 4, its lower one sector 9 to 11
+abbrev pub upperOf : ℕ → Layout
+upperOf channel = layoutOf (channel + 1)
+
+abbrev pub lowerOf : ℕ → Layout
+lowerOf channel = layoutOf (channel + 8)
+
 -- behind the data: 16 check bits, and 2,048 filler bits
 abbrev pub checkBits : ℕ
 checkBits = 16

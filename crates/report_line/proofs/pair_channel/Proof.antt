@@ -6,7 +6,7 @@ use borrow.Author.Tests.{eq-eqb, ne-eqb}
 use mathlib.Core.List.{List}
 use mathlib.Core.Bool.{_&&_}
 use lib.Dec.{eqb}
-use Rattle.channels.specs.Join.{upperOf, lowerOf}
+use Rattle.sectors.specs.Layout.{upperOf, lowerOf}
 use Prim.Native.Nat.{ℕ}
 use Rattle.bits.specs.Bits.{bitsOf}
 use Rattle.sectors.specs.declared.layout.Layout.{Layout}

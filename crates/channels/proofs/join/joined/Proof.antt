@@ -10,12 +10,12 @@ use Rattle.refusals.proofs.Words.{turned-away, done}
 use Rattle.formats.specs.Formats.{lineBytes, checkStart}
 use Rattle.bits.specs.Bits.{bitsOf}
 use Rattle.sectors.specs.declared.layout.Layout.{Layout}
-use Rattle.sectors.specs.Layout.{Sound}
+use Rattle.sectors.specs.Layout.{Sound, upperOf, lowerOf}
 use Rattle.sectors.specs.Sector.{pixelsOf, joinedOf}
 use Rattle.sectors.proofs.Table.{sound}
+use Rattle.sectors.proofs.Pairs.{upper-wide, lower-wide, as-many}
 use Rattle.pixels.proofs.Readable.{Readable, readable-more}
-use Rattle.channels.specs.Join.{upperOf, lowerOf, joinedAnswer, joinedLeft}
-use Rattle.channels.proofs.Joined.{upper-wide, lower-wide, as-many}
+use Rattle.channels.specs.Join.{joinedAnswer, joinedLeft}
 use Rattle.channels.proofs.join.joined.Statement.{statement}
 use Rattle.channels.proofs.join.joined.Tie as tie
 

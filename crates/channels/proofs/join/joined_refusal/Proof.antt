@@ -9,12 +9,12 @@ use Rattle.refusals.proofs.Words.{refused, passed}
 use Rattle.formats.specs.Formats.{checkStart}
 use Rattle.bits.specs.Bits.{bitsOf}
 use Rattle.sectors.specs.declared.layout.Layout.{Layout}
-use Rattle.sectors.specs.Layout.{Sound}
+use Rattle.sectors.specs.Layout.{Sound, upperOf}
 use Rattle.sectors.specs.Sector.{answerOf}
 use Rattle.sectors.proofs.Admitted.{Admitted, admitted}
 use Rattle.sectors.proofs.Table.{sound}
 use Rattle.pixels.specs.Calls.{valuesRefusal}
-use Rattle.channels.specs.Join.{upperOf, joinedAnswer}
+use Rattle.channels.specs.Join.{joinedAnswer}
 use Rattle.channels.proofs.join.joined_refusal.Statement.{statement}
 use Rattle.channels.proofs.join.joined_refusal.Tie as tie
 
