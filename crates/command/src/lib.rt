@@ -13,7 +13,7 @@ fn listened(a: Asked, place: usize, t: Takes) -> Asked {
     if os::errno() != 0 {
         return words::unserved(a, place);
     }
-    words::heard(a, place, words::word_of(a.awaits, &text[..n]), t)
+    hearing::heard(a, place, spelling::word_of(a.awaits, &text[..n]), t)
 }
 
 // All words of the command line, by what a program takes.
@@ -25,7 +25,7 @@ pub fn asked_for(t: Takes) -> Asked {
         a = listened(a, place, t);
         place += 1;
     }
-    words::closed(a)
+    hearing::closed(a)
 }
 
 // What is wrong with the words, and the usage text, on standard error.
@@ -74,5 +74,5 @@ pub fn setting_at(place: usize) -> u8 {
     }
     let mut text = io::buffer();
     let n = os::arg(place, &mut text);
-    words::setting_of(&text[..n])
+    spelling::setting_of(&text[..n])
 }

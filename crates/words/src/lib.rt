@@ -1,11 +1,11 @@
-// The words of a command line, for all programs in one place: what a word is, and what is asked for with one word more. They come
-// in any order. `command` takes them from the operating system.
+// The words of a command line, for all programs in one place: the record of what they ask for, and how it is changed. They come
+// in any order. What a word is stands in `spelling`, what is asked for with one word more in `hearing`; `command` takes the words
+// from the operating system.
 //
-// The contracts cite `specs/Words.antt`. No function has a `requires`.
+// The contracts cite `specs/Words.antt`, which has the definitions of all three. No function has a `requires`.
 ghost use mathlib.Core.Path.{_≡_};
 ghost use Prim.Native.Nat.{_≤_};
-ghost use Rattle.bits.specs.Bits.{same};
-ghost use Rattle.words.specs.Words.{isOption, wordOf, settingOf, nothingAsked, withOptions, withNames, awaiting, unserved as Words·unserved, named as Words·named, formatted as Words·formatted, heard as Words·heard, closed as Words·closed};
+ghost use Rattle.words.specs.Words.{nothingAsked, withOptions, withNames, awaiting, unserved as Words·unserved};
 
 // A word: -2 or -3, which ask for a format, --help, -s, the number behind -s, a name (that of a file, or a number), or another that
 // opens with a minus sign.
@@ -58,69 +58,6 @@ pub fn nothing() -> Asked
     }
 }
 
-// Whether a text is a certain word.
-fn is(text: &[u8], word: &[u8]) -> bool
-    ensures { λ r. ⌜ r ≡ same (now (text .entry)) (now (word .entry)) ⌝ }
-{
-    let n = word.len();
-    if text.len() != n {
-        return false;
-    }
-    octets::same(text, 0, word, 0, n)
-}
-
-// Whether a text opens with a minus sign and goes on. A minus sign alone is the name of standard input.
-fn is_option(text: &[u8]) -> bool
-    ensures { λ r. ⌜ r ≡ isOption (now (text .entry)) ⌝ }
-{
-    if text.len() < 2 {
-        return false;
-    }
-    text[0] == b'-'
-}
-
-// What a text is. Where -s awaits its number it is that, whatever it says.
-pub fn word_of(awaited: bool, text: &[u8]) -> Word
-    ensures { λ r. ⌜ r ≡ wordOf awaited (now (text .entry)) ⌝ }
-{
-    if awaited {
-        return Word::Number;
-    }
-    if is(text, b"-2") {
-        return Word::Format(2);
-    }
-    if is(text, b"-3") {
-        return Word::Format(3);
-    }
-    if is(text, b"--help") {
-        return Word::Help;
-    }
-    if is(text, b"-s") {
-        return Word::Setting;
-    }
-    if is_option(text) {
-        return Word::Unknown;
-    }
-    Word::Name
-}
-
-// The setting that a text is, one digit 0 to 6; 7 where it is something else.
-pub fn setting_of(text: &[u8]) -> u8
-    ensures { λ r. ⌜ r ≡ settingOf (now (text .entry)) ⌝ }
-{
-    if text.len() != 1 {
-        return 7;
-    }
-    let c = text[0];
-    if c < b'0' {
-        return 7;
-    }
-    if b'6' < c {
-        return 7;
-    }
-    c - b'0'
-}
-
 // The word at a place is not served. The first such word is kept.
 pub fn unserved(a: Asked, place: usize) -> Asked
     ensures { λ r. ⌜ r ≡ Words·unserved a place ⌝ }
@@ -142,8 +79,8 @@ pub fn unserved(a: Asked, place: usize) -> Asked
     }
 }
 
-// The same with other options.
-fn with_options(a: Asked, format: u8, help: bool, awaits: bool, setting: usize) -> Asked
+// Inner. The same with other options.
+pub fn with_options(a: Asked, format: u8, help: bool, awaits: bool, setting: usize) -> Asked
     ensures { λ r. ⌜ r ≡ withOptions a format help awaits setting ⌝ }
 {
     Asked {
@@ -160,8 +97,8 @@ fn with_options(a: Asked, format: u8, help: bool, awaits: bool, setting: usize) 
     }
 }
 
-// The same with other names.
-fn with_names(
+// Inner. The same with other names.
+pub fn with_names(
     a: Asked,
     names: usize,
     first: usize,
@@ -185,44 +122,8 @@ fn with_names(
     }
 }
 
-// A name at a place, of at most so many: the first, the second, the third, the fourth, or one too many.
-fn named(a: Asked, place: usize, most: usize) -> Asked
-    ensures { λ r. ⌜ r ≡ Words·named a place most ⌝ }
-{
-    let n = a.names;
-    if most <= n {
-        return unserved(a, place);
-    }
-    if n == 0 {
-        return with_names(a, 1, place, a.second, a.third, a.fourth);
-    }
-    if n == 1 {
-        return with_names(a, 2, a.first, place, a.third, a.fourth);
-    }
-    if n == 2 {
-        return with_names(a, 3, a.first, a.second, place, a.fourth);
-    }
-    if n == 3 {
-        return with_names(a, 4, a.first, a.second, a.third, place);
-    }
-    unserved(a, place)
-}
-
-// A format at a place. Where the words before it asked for another one, it is not served.
-fn formatted(a: Asked, place: usize, n: u8) -> Asked
-    ensures { λ r. ⌜ r ≡ Words·formatted a place n ⌝ }
-{
-    if a.format == 1 {
-        return with_options(a, n, a.help, a.awaits, a.setting);
-    }
-    if a.format == n {
-        return with_options(a, n, a.help, a.awaits, a.setting);
-    }
-    unserved(a, place)
-}
-
-// -s at a place, which awaits its number. It is served once, by a program that takes it.
-fn awaited(a: Asked, place: usize, taken: bool) -> Asked
+// Inner. -s at a place, which awaits its number. It is served once, by a program that takes it.
+pub fn awaited(a: Asked, place: usize, taken: bool) -> Asked
     ensures { λ r. ⌜ r ≡ awaiting a place taken ⌝ }
 {
     if !taken {
@@ -232,30 +133,6 @@ fn awaited(a: Asked, place: usize, taken: bool) -> Asked
         return unserved(a, place);
     }
     with_options(a, a.format, a.help, true, place)
-}
-
-// What is asked for with one word more, at a place, by what a program takes.
-pub fn heard(a: Asked, place: usize, w: Word, t: Takes) -> Asked
-    ensures { λ r. ⌜ r ≡ Words·heard a place w t ⌝ }
-{
-    match w {
-        Word::Format(n) => formatted(a, place, n),
-        Word::Help => with_options(a, a.format, true, a.awaits, a.setting),
-        Word::Setting => awaited(a, place, t.setting),
-        Word::Number => with_options(a, a.format, a.help, false, place),
-        Word::Name => named(a, place, t.names),
-        Word::Unknown => unserved(a, place),
-    }
-}
-
-// What is asked for by all words. A last one -s, which has no number, is not served.
-pub fn closed(a: Asked) -> Asked
-    ensures { λ r. ⌜ r ≡ Words·closed a ⌝ }
-{
-    if a.awaits {
-        return unserved(a, a.setting);
-    }
-    a
 }
 
 // The largest number that a word can be.

@@ -1,12 +1,12 @@
--- `words::setting_of` meets its contract. Assumes nothing.
+-- `spelling::setting_of` meets its contract. Assumes nothing.
 use mathlib.Core.Path.{refl}
 use native.Mathlib.Omega.{arith}
 use denote.Ref.{now}
 use lib.ListN.{length, getD}
 use borrow.Author.Needs.{needs}
 use borrow.Author.Tests.{lt-ltb, le-ltb, eq-eqb, ne-eqb}
-use Rattle.words.proofs.setting_of.Statement.{statement}
-use Rattle.words.proofs.setting_of.Tie as tie
+use Rattle.spelling.proofs.setting_of.Statement.{statement}
+use Rattle.spelling.proofs.setting_of.Tie as tie
 
 returns : tie.Need-returns
 returns c = rw (ne-eqb (length (now (c .before .args .text))) 1 (c .if1 .taken)) refl

@@ -1,7 +1,7 @@
--- `words::heard` meets its contract. Assumes nothing.
+-- `hearing::heard` meets its contract. Assumes nothing.
 use borrow.Author.Needs.{needs}
-use Rattle.words.proofs.heard.Statement.{statement}
-use Rattle.words.proofs.heard.Tie as tie
+use Rattle.hearing.proofs.heard.Statement.{statement}
+use Rattle.hearing.proofs.heard.Tie as tie
 
 enum-known-w : tie.Need-enum-known-w
 enum-known-w c = search needs

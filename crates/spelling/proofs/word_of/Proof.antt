@@ -1,8 +1,8 @@
--- `words::word_of` meets its contract. Assumes nothing.
+-- `spelling::word_of` meets its contract. Assumes nothing.
 use mathlib.Core.Path.{_≡_, refl, sym, _∙_}
 use borrow.Author.Needs.{needs}
-use Rattle.words.proofs.word_of.Statement.{statement}
-use Rattle.words.proofs.word_of.Tie as tie
+use Rattle.spelling.proofs.word_of.Statement.{statement}
+use Rattle.spelling.proofs.word_of.Tie as tie
 
 returns : tie.Need-returns
 returns c = rw (c .if1 .taken) refl

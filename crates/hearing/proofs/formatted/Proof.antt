@@ -1,8 +1,8 @@
--- `words::formatted` meets its contract. Assumes nothing.
+-- `hearing::formatted` meets its contract. Assumes nothing.
 use borrow.Author.Needs.{needs}
 use borrow.Author.Tests.{eq-eqb, ne-eqb}
-use Rattle.words.proofs.formatted.Statement.{statement}
-use Rattle.words.proofs.formatted.Tie as tie
+use Rattle.hearing.proofs.formatted.Statement.{statement}
+use Rattle.hearing.proofs.formatted.Tie as tie
 
 with-options-requires : tie.Need-with-options-requires
 with-options-requires c κs = search needs

@@ -1,8 +1,8 @@
--- `words::named` meets its contract. Assumes nothing.
+-- `hearing::named` meets its contract. Assumes nothing.
 use borrow.Author.Needs.{needs}
 use borrow.Author.Tests.{lt-ltb, le-ltb, eq-eqb, ne-eqb}
-use Rattle.words.proofs.named.Statement.{statement}
-use Rattle.words.proofs.named.Tie as tie
+use Rattle.hearing.proofs.named.Statement.{statement}
+use Rattle.hearing.proofs.named.Tie as tie
 
 unserved-requires : tie.Need-unserved-requires
 unserved-requires c κs = search needs

@@ -1,12 +1,12 @@
--- `words::is` meets its contract. Assumes nothing.
+-- `spelling::is` meets its contract. Assumes nothing.
 use mathlib.Core.Path.{_≡_, sym, _∙_, ap, ap₂}
 use native.Mathlib.Omega.{arith}
 use denote.Ref.{now}
 use borrow.Author.Needs.{needs}
 use Rattle.bits.specs.Bits.{same, stretch}
-use Rattle.words.proofs.Laws.{not-same, all-of}
-use Rattle.words.proofs.is.Statement.{statement}
-use Rattle.words.proofs.is.Tie as tie
+use Rattle.spelling.proofs.Laws.{not-same, all-of}
+use Rattle.spelling.proofs.is.Statement.{statement}
+use Rattle.spelling.proofs.is.Tie as tie
 
 returns : tie.Need-returns
 returns c = let a = c .before .before .before .args in sym (not-same (now (a .text)) (now (a .word)) (c .if1 .taken))

@@ -1,10 +1,10 @@
--- `words::closed` meets its contract. Assumes nothing.
+-- `hearing::closed` meets its contract. Assumes nothing.
 use mathlib.Core.Path.{sym, _∙_, ap}
 use mathlib.Core.Bool.{cond}
 use borrow.Author.Needs.{needs}
 use Rattle.words.specs.Words.{unserved}
-use Rattle.words.proofs.closed.Statement.{statement}
-use Rattle.words.proofs.closed.Tie as tie
+use Rattle.hearing.proofs.closed.Statement.{statement}
+use Rattle.hearing.proofs.closed.Tie as tie
 
 unserved-requires : tie.Need-unserved-requires
 unserved-requires c κs = search needs

@@ -1,12 +1,12 @@
--- `words::is_option` meets its contract. Assumes nothing.
+-- `spelling::is_option` meets its contract. Assumes nothing.
 use mathlib.Core.Path.{refl}
 use native.Mathlib.Omega.{arith}
 use denote.Ref.{now}
 use lib.ListN.{length}
 use borrow.Author.Needs.{needs}
 use borrow.Author.Tests.{lt-ltb, le-ltb}
-use Rattle.words.proofs.is_option.Statement.{statement}
-use Rattle.words.proofs.is_option.Tie as tie
+use Rattle.spelling.proofs.is_option.Statement.{statement}
+use Rattle.spelling.proofs.is_option.Tie as tie
 
 returns : tie.Need-returns
 returns c = rw (le-ltb 1 (length (now (c .before .args .text))) (omega arith)) refl
