@@ -8,7 +8,8 @@ use Rattle.sectors.specs.Calls.{fillerRefusal, fillerAnswer}
 use Rattle.reader.specs.Read.{readRefusal, readAnswer, readLeft}
 use Rattle.writer.specs.Wire.{onWire, wireBytes, writeLineRefusal, writeLineAnswer, writeLineLeft}
 use Rattle.blocks.specs.Blocks.{blockRefusal}
-use Rattle.entries.specs.Entries.{entryRefusal, revisionAnswer, firstLongitude, gridAt, mappingAnswer, elementsAnswer}
+use Rattle.entries.specs.Entries.{entryRefusal, revisionAnswer, mappingAnswer, elementsAnswer}
+use Rattle.grid_points.specs.Points.{firstLongitude, gridAt}
 use Rattle.calibration.specs.Tables.{levelRefusal, levelAnswer, levelF64Answer}
 use Rattle.demands.specs.Ones.{AsFormat1}
 

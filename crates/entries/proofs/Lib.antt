@@ -1,4 +1,3 @@
 pub mod Known
 pub mod Settled
 pub mod Readings
-pub mod Degrees

@@ -10,7 +10,7 @@ use Rattle.blocks.specs.declared.marks.Marks.{Marks}
 use Rattle.blocks.specs.declared.assembly.Assembly.{Assembly}
 use Rattle.entries.specs.declared.revision.Revised.{Revised}
 use Rattle.entries.specs.declared.revision.Revised.the-variants as revised
-use Rattle.entries.specs.declared.mapping.Grid.{Grid}
+use Rattle.grid_points.specs.declared.Grid.{Grid}
 use Rattle.entries.specs.declared.mapping.Mapped.{Mapped}
 use Rattle.entries.specs.declared.mapping.Mapped.the-variants as mapped
 use Rattle.entries.specs.declared.orbit.Orbit.{Orbit}

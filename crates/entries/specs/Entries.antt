@@ -1,16 +1,14 @@
 -- The entries of a finished block: its revision, the points of the mapping grid and the orbital elements.
 -- Places count bytes of the block from 1. Refusals stand in the order in which they are tested. Assumes nothing.
 use Prim.Native.Nat.{ℕ, _+_, _*_, _-_}
-use mathlib.Core.Bool.{cond}
 use mathlib.Core.List.{List}
 use mathlib.Core.Path.{_≡_}
-use lib.Dec.{eqb, ltb}
 use lib.Ieee as Ieee
-use lib.IntN.{ℤ, pos, _-ℤ_}
+use lib.IntN.{pos}
 use lib.ListN.{length}
 use Rattle.refusals.specs.Refusals.{first, kept, shortOf, outsideOf, answered, Genuine}
 use Rattle.formats.specs.Formats.{formatRefusal}
-use Rattle.bits.specs.Bits.{stretch, inBase}
+use Rattle.bits.specs.Bits.{stretch}
 use Rattle.numbers.specs.Reals.{realIn}
 use Rattle.numbers.specs.Floats.{valueOf, zeroFloat}
 use Rattle.blocks.specs.declared.marks.Marks.{Marks}
@@ -20,7 +18,8 @@ use Rattle.blocks.specs.Marking.{marksRefusal, unfinishedRefusal}
 use Rattle.blocks.specs.Record.{revisionOf}
 use Rattle.entries.specs.declared.revision.Revised.{Revised}
 use Rattle.entries.specs.declared.revision.Revised.the-variants as revised
-use Rattle.entries.specs.declared.mapping.Grid.{Grid}
+use Rattle.grid_points.specs.declared.Grid.{Grid}
+use Rattle.grid_points.specs.Points.{gridAt}
 use Rattle.entries.specs.declared.mapping.Mapped.{Mapped}
 use Rattle.entries.specs.declared.mapping.Mapped.the-variants as mapped
 use Rattle.entries.specs.declared.orbit.Orbit.{Orbit}
@@ -62,34 +61,6 @@ RevisionOk f a n block r =
     × Genuine revised.Refused r
 
 -- ---- mapping
-
--- row i, column j: line and then pixel
-abbrev pub gridPlace : ℕ → ℕ → ℕ
-gridPlace i j = 100 * i + 4 * j + 1
-
--- degrees north
-abbrev pub latitudeOf : ℕ → ℤ
-latitudeOf i = pos 60 -ℤ pos (5 * i)
-
--- degrees east of the first column: 80 in format 2, 45 in every other
-unfoldable pub firstLongitude : ℕ → ℕ
-firstLongitude f = cond (eqb f 2) 80 45
-
--- longitudes above 180 are given as west, which is below 0; 180 itself is not above 180
-unfoldable pub westAbove180 : ℕ → ℤ
-westAbove180 d = cond (ltb 180 d) (pos d -ℤ pos 360) (pos d)
-
--- degrees east
-abbrev pub longitudeOf : ℕ → ℕ → ℤ
-longitudeOf f j = westAbove180 (firstLongitude f + 5 * j)
-
-unfoldable pub gridAt : ℕ → List ℕ → ℕ → ℕ → Grid
-gridAt f block i j = record {
-  line = inBase 256 (stretch block (gridPlace i j - 1) 2);
-  pixel = inBase 256 (stretch block (gridPlace i j + 2 - 1) 2);
-  latitude = latitudeOf i;
-  longitude = longitudeOf f j;
-}
 
 -- the paper's number and values for each answer
 abbrev pub noPoint : Grid

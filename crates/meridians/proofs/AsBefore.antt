@@ -10,7 +10,8 @@ use Rattle.refusals.specs.Refusals.{answered}
 use Rattle.blocks.specs.declared.marks.Marks.{Marks}
 use Rattle.entries.specs.declared.mapping.Mapped.{Mapped}
 use Rattle.entries.specs.declared.mapping.Mapped.the-variants as mapped
-use Rattle.entries.specs.Entries.{firstLongitude, latitudeOf, gridPlace, gridAt, mappedNumber, mappedPoint, gridRefusal, mappingRefusal, mappingAnswer}
+use Rattle.entries.specs.Entries.{mappedNumber, mappedPoint, gridRefusal, mappingRefusal, mappingAnswer}
+use Rattle.grid_points.specs.Points.{firstLongitude, latitudeOf, gridPlace, gridAt}
 use Rattle.entries.proofs.Known.{in-grid}
 use Rattle.meridians.specs.Meridians.{SameMeridian}
 use Rattle.meridians.specs.Before.{earlierGridAt, earlierAnswer}

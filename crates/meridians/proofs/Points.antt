@@ -8,8 +8,9 @@ use lib.ListN.{length, getD}
 use Rattle.refusals.proofs.Words.{kept-none}
 use Rattle.refusals.proofs.Says.{says-of}
 use Rattle.blocks.specs.declared.marks.Marks.{Marks}
-use Rattle.entries.specs.declared.mapping.Grid.{Grid}
-use Rattle.entries.specs.Entries.{latitudeOf, firstLongitude, longitudeOf, gridAt, noPoint, mappedNumber, mappedPoint, mappingRefusal, mappingAnswer, MappingOk}
+use Rattle.grid_points.specs.declared.Grid.{Grid}
+use Rattle.entries.specs.Entries.{noPoint, mappedNumber, mappedPoint, mappingRefusal, mappingAnswer, MappingOk}
+use Rattle.grid_points.specs.Points.{latitudeOf, firstLongitude, longitudeOf, gridAt}
 use Rattle.entries.proofs.Known.{in-grid}
 use Rattle.entries.proofs.Settled.{points}
 use Rattle.meridians.specs.Meridians.{SameMeridian, Longitude, columnsOf}

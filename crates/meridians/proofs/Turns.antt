@@ -6,8 +6,8 @@ use native.Mathlib.Omega.{arith}
 use lib.Dec.{leb→le, le→leb, ltb→lt, lt→ltb}
 use lib.IntN.{ℤ, pos, negsuc, _+ℤ_, _-ℤ_, _*ℤ_}
 use Rattle.numbers.proofs.Differences.{either, minus-more, minus-less}
-use Rattle.entries.specs.Entries.{westAbove180}
-use Rattle.entries.proofs.Degrees.{stays-east, turns-west}
+use Rattle.grid_points.specs.Points.{westAbove180}
+use Rattle.grid_points.proofs.Degrees.{stays-east, turns-west}
 use Rattle.meridians.specs.Meridians.{SameMeridian, Longitude}
 
 -- ---- longitudes, in numbers

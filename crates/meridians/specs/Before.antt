@@ -8,10 +8,11 @@ use Rattle.refusals.specs.Refusals.{answered, first, outsideOf}
 use Rattle.bits.specs.Bits.{stretch, inBase}
 use Rattle.blocks.specs.declared.marks.Marks.{Marks}
 use Rattle.blocks.specs.Blocks.{mapping}
-use Rattle.entries.specs.declared.mapping.Grid.{Grid}
+use Rattle.grid_points.specs.declared.Grid.{Grid}
 use Rattle.entries.specs.declared.mapping.Mapped.{Mapped}
 use Rattle.entries.specs.declared.mapping.Mapped.the-variants as mapped
-use Rattle.entries.specs.Entries.{entryRefusal, gridPlace}
+use Rattle.entries.specs.Entries.{entryRefusal}
+use Rattle.grid_points.specs.Points.{gridPlace}
 
 unfoldable pub earlierGridAt : List ℕ → ℕ → ℕ → Grid
 earlierGridAt block i j = record {

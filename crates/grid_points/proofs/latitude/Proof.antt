@@ -1,10 +1,10 @@
--- `entries::mapping::latitude` meets its contract. Assumes nothing.
+-- `grid_points::latitude` meets its contract. Assumes nothing.
 use Prim.Native.Nat.{_*_, _^_, _<_}
 use native.Mathlib.Omega.{arith}
-use Rattle.entries.proofs.Degrees.{sub-fits, sub-is}
+use Rattle.grid_points.proofs.Degrees.{sub-fits, sub-is}
 use borrow.Author.Needs.{needs}
-use Rattle.entries.proofs.mapping.latitude.Statement.{statement}
-use Rattle.entries.proofs.mapping.latitude.Tie as tie
+use Rattle.grid_points.proofs.latitude.Statement.{statement}
+use Rattle.grid_points.proofs.latitude.Tie as tie
 
 mul-below : tie.Need-mul-below
 mul-below c = search needs

@@ -1,9 +1,9 @@
--- `entries::mapping::grid_at` meets its contract. Assumes nothing.
-use Rattle.entries.specs.Entries.{latitudeOf, longitudeOf, gridAt}
-use Rattle.entries.proofs.Degrees.{back, latitude-fits, longitude-fits}
+-- `grid_points::grid_at` meets its contract. Assumes nothing.
+use Rattle.grid_points.specs.Points.{latitudeOf, longitudeOf, gridAt}
+use Rattle.grid_points.proofs.Degrees.{back, latitude-fits, longitude-fits}
 use borrow.Author.Needs.{needs}
-use Rattle.entries.proofs.mapping.grid_at.Statement.{statement}
-use Rattle.entries.proofs.mapping.grid_at.Tie as tie
+use Rattle.grid_points.proofs.grid_at.Statement.{statement}
+use Rattle.grid_points.proofs.grid_at.Tie as tie
 
 mul-place : tie.Need-mul-place
 mul-place c = search needs

@@ -1,8 +1,8 @@
--- `entries::mapping::first_longitude` meets its contract. Assumes nothing.
+-- `grid_points::first_longitude` meets its contract. Assumes nothing.
 use mathlib.Core.Path.{sym}
-use Rattle.entries.proofs.Degrees.{first-at-80, first-at-45}
-use Rattle.entries.proofs.mapping.first_longitude.Statement.{statement}
-use Rattle.entries.proofs.mapping.first_longitude.Tie as tie
+use Rattle.grid_points.proofs.Degrees.{first-at-80, first-at-45}
+use Rattle.grid_points.proofs.first_longitude.Statement.{statement}
+use Rattle.grid_points.proofs.first_longitude.Tie as tie
 
 returns : tie.Need-returns
 returns c = sym (first-at-80 (c .before .args .format) (c .match .keys1))

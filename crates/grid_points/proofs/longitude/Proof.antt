@@ -1,12 +1,12 @@
--- `entries::mapping::longitude` meets its contract. Assumes nothing.
+-- `grid_points::longitude` meets its contract. Assumes nothing.
 use mathlib.Core.Path.{ap, _∙_}
 use Prim.Native.Nat.{ℕ, _+_, _*_}
 use native.Mathlib.Omega.{arith}
 use borrow.Author.Needs.{needs}
-use Rattle.entries.specs.Entries.{westAbove180, longitudeOf}
-use Rattle.entries.proofs.Degrees.{first-most, back, longitude-fits}
-use Rattle.entries.proofs.mapping.longitude.Statement.{statement}
-use Rattle.entries.proofs.mapping.longitude.Tie as tie
+use Rattle.grid_points.specs.Points.{westAbove180, longitudeOf}
+use Rattle.grid_points.proofs.Degrees.{first-most, back, longitude-fits}
+use Rattle.grid_points.proofs.longitude.Statement.{statement}
+use Rattle.grid_points.proofs.longitude.Tie as tie
 
 first-longitude-requires : tie.Need-first-longitude-requires
 first-longitude-requires c κs = search needs
