@@ -17,11 +17,12 @@ use Rattle.cuts.specs.Driven.{lentFor, Driven, takenIn}
 use Rattle.reader_bits.specs.Lines.{isTail}
 use Rattle.reader_bits.specs.Phase.{seeking, within, Bench}
 use Rattle.reader_bits.specs.Loops.{stepOf, doneOf}
-use Rattle.reader.specs.Read.{callOf, callAnswer, readAnswer, readLeft, refusalOf, takenBy}
+use Rattle.reader.specs.Read.{callOf, readAnswer, readLeft, refusalOf, takenBy}
+use Rattle.reader_line.specs.Answers.{callAnswer}
 use Rattle.reader_record.specs.Records.{possibleOf, phaseOf}
 use Rattle.reader_record.specs.declared.State.{State}
-use Rattle.reader.specs.declared.Answer.{Answer}
-use Rattle.reader.specs.declared.Answer.the-variants.{More}
+use Rattle.reader_line.specs.declared.Answer.{Answer}
+use Rattle.reader_line.specs.declared.Answer.the-variants.{More}
 use Rattle.cuts.proofs.Calls.{takenOf, taken-most, taken-least, Quiet}
 use Rattle.cuts.proofs.Cases.{read-cases}
 use Rattle.reader_record.proofs.Checked.{Facts, facts, counts-true-in}

@@ -12,9 +12,11 @@ use lib.ListN.{length}
 use Rattle.refusals.specs.Refusals.{answered, kept}
 use Rattle.reader_record.specs.Records.{possibleOf}
 use Rattle.reader_record.specs.declared.State.{State}
-use Rattle.reader.specs.Read.{callOf, callAnswer, callLeft, servedAnswer, servedLeft, readRefusal, readAnswer, readLeft}
-use Rattle.reader.specs.declared.Answer.{Answer}
-use Rattle.reader.specs.declared.Answer.the-variants.{Refused, More}
+use Rattle.reader.specs.Read.{callOf, servedAnswer, servedLeft, readAnswer, readLeft}
+use Rattle.reader_line.specs.Answers.{callAnswer, callLeft}
+use Rattle.reader_refusals.specs.Refusing.{readRefusal}
+use Rattle.reader_line.specs.declared.Answer.{Answer}
+use Rattle.reader_line.specs.declared.Answer.the-variants.{Refused, More}
 use Rattle.reader.proofs.Ways.{Admitted, admitted}
 
 module _ (f setting : ℕ) (s : State) (p buf : List ℕ) (P : Answer → List ℕ → Type 0)

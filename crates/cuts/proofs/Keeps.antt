@@ -18,11 +18,12 @@ use Rattle.reader_bits.specs.Call.{Call, more, whole}
 use Rattle.reader_bits.specs.Lines.{isTail}
 use Rattle.reader_bits.specs.Phase.{Phase, seeking, within, phaseNext, bufferNext, completes, Bench}
 use Rattle.reader_bits.specs.Loops.{stepOf, doneOf}
-use Rattle.reader.specs.Read.{callOf, callAnswer, callLeft, readAnswer, readLeft}
+use Rattle.reader.specs.Read.{callOf, readAnswer, readLeft}
+use Rattle.reader_line.specs.Answers.{callAnswer, callLeft}
 use Rattle.reader_record.specs.Records.{possibleOf, phaseOf, stateOf}
 use Rattle.reader_record.specs.declared.State.{State}
-use Rattle.reader.specs.declared.Answer.{Answer}
-use Rattle.reader.specs.declared.Answer.the-variants.{Refused, More, Line}
+use Rattle.reader_line.specs.declared.Answer.{Answer}
+use Rattle.reader_line.specs.declared.Answer.the-variants.{Refused, More, Line}
 use Rattle.cuts.proofs.Calls.{Gives, gives-call}
 use Rattle.cuts.proofs.Cases.{read-cases}
 use Rattle.reader_record.proofs.Checked.{Facts, facts, counts-true-in}

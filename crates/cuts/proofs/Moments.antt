@@ -21,11 +21,13 @@ use Rattle.cuts.specs.Driven.{lentFor, lineIn, Moment, bitsRead}
 use Rattle.reader_bits.specs.Lines.{isTail, lines, recorded}
 use Rattle.reader_bits.specs.Phase.{Phase, seeking, within, Bench}
 use Rattle.reader_bits.specs.Loops.{stepOf, doneOf}
-use Rattle.reader.specs.Read.{largestSetting, callAnswer, callLeft, readAnswer, readLeft}
+use Rattle.reader.specs.Read.{readAnswer, readLeft}
+use Rattle.reader_line.specs.Answers.{callAnswer, callLeft}
+use Rattle.reader_refusals.specs.Refusing.{largestSetting}
 use Rattle.reader_record.specs.Records.{stateOf}
 use Rattle.reader_record.specs.declared.State.{State}
-use Rattle.reader.specs.declared.Answer.{Answer}
-use Rattle.reader.specs.declared.Answer.the-variants.{More, Line}
+use Rattle.reader_line.specs.declared.Answer.{Answer}
+use Rattle.reader_line.specs.declared.Answer.the-variants.{More, Line}
 use Rattle.cuts.proofs.Auto as auto
 use Rattle.cuts.proofs.Auto.{Auto, seek}
 use Rattle.cuts.proofs.Calls.{outs, after}

@@ -27,8 +27,10 @@ use Rattle.reader_bits.specs.Call.{Call, call}
 use Rattle.reader_bits.specs.Lines.{isTail}
 use Rattle.reader_bits.specs.Phase.{Phase, seeking, within, phaseNext, Bench}
 use Rattle.reader_bits.specs.Loops.{stepOf, doneOf}
-use Rattle.reader.specs.Read.{callOf, callAnswer, callLeft, servedAnswer, servedLeft, largestSetting, settingRefusal, readRefusal, readAnswer, readLeft}
-use Rattle.reader.specs.declared.Answer.the-variants.{Refused}
+use Rattle.reader.specs.Read.{callOf, servedAnswer, servedLeft, readAnswer, readLeft}
+use Rattle.reader_line.specs.Answers.{callAnswer, callLeft}
+use Rattle.reader_refusals.specs.Refusing.{largestSetting, settingRefusal, readRefusal}
+use Rattle.reader_line.specs.declared.Answer.the-variants.{Refused}
 use Rattle.reader_record.specs.Records.{countsOf, possibleOf, stateOf}
 use Rattle.reader_record.specs.declared.State.{State}
 use Rattle.cuts.proofs.Calls.{Gives, gives-call}

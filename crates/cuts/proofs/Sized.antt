@@ -8,8 +8,9 @@ use lib.ListN.{length}
 use Rattle.reader_bits.specs.Call.{Call, more, whole}
 use Rattle.reader_bits.specs.Phase.{Bench}
 use Rattle.reader_bits.specs.Loops.{stepOf, doneOf}
-use Rattle.reader.specs.Read.{callOf, callLeft, readLeft}
-use Rattle.reader.specs.declared.Answer.{Answer}
+use Rattle.reader.specs.Read.{callOf, readLeft}
+use Rattle.reader_line.specs.Answers.{callLeft}
+use Rattle.reader_line.specs.declared.Answer.{Answer}
 use Rattle.reader_record.specs.Records.{phaseOf}
 use Rattle.reader_record.specs.declared.State.{State}
 use Rattle.reader_record.proofs.Checked.{facts}

@@ -11,7 +11,7 @@ use Rattle.formats.specs.Formats.{lineBytes}
 use Rattle.reader.specs.Read.{readAnswer, readLeft}
 use Rattle.reader_record.specs.Records.{freshState}
 use Rattle.reader_record.specs.declared.State.{State}
-use Rattle.reader.specs.declared.Answer.the-variants.{Refused, More, Line}
+use Rattle.reader_line.specs.declared.Answer.the-variants.{Refused, More, Line}
 
 -- the buffer of call k: inside a line it stays; between lines it is what the caller makes of it, `lend k`
 abbrev pub lentFor : (ℕ → List ℕ → List ℕ) → ℕ → State → List ℕ → List ℕ

@@ -5,7 +5,8 @@ use Rattle.formats.specs.Formats.{unknown, formatRefusal, namedBy}
 use Rattle.sync.specs.Put.{putSyncRefusal, putSyncAnswer, putSyncLeft}
 use Rattle.sectors.specs.Asked.{askedOf, lineRefusal}
 use Rattle.sectors.specs.Calls.{fillerRefusal, fillerAnswer}
-use Rattle.reader.specs.Read.{readRefusal, readAnswer, readLeft}
+use Rattle.reader.specs.Read.{readAnswer, readLeft}
+use Rattle.reader_refusals.specs.Refusing.{readRefusal}
 use Rattle.writer.specs.Wire.{onWire, wireBytes, writeLineRefusal, writeLineAnswer, writeLineLeft}
 use Rattle.blocks.specs.Blocks.{blockRefusal}
 use Rattle.entries.specs.Entries.{entryRefusal, revisionAnswer, mappingAnswer, elementsAnswer}

@@ -11,7 +11,7 @@ use Rattle.formats.specs.declared.FormatAnswer.the-variants.{Is}
 use Rattle.formats.proofs.Which.{is-known}
 use Rattle.cuts.specs.Driven.{Driven, lineIn}
 use Rattle.reader_record.specs.Records.{freshState}
-use Rattle.reader.specs.Read.{largestSetting}
+use Rattle.reader_refusals.specs.Refusing.{largestSetting}
 use Rattle.sector_rounds.proofs.Cards.{other-card, twelve-fives}
 use Rattle.demands.specs.RoundTrip.{Recording}
 use Rattle.demands.specs.Ones.{OtherCard}

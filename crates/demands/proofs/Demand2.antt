@@ -22,7 +22,7 @@ use Rattle.formats.specs.declared.FormatAnswer.the-variants.{Is}
 use Rattle.cuts.specs.Driven.{Driven, Moment, Standing, lineIn}
 use Rattle.reader_bits.specs.Lines.{lines, recorded}
 use Rattle.reader_record.specs.Records.{freshState}
-use Rattle.reader.specs.Read.{largestSetting}
+use Rattle.reader_refusals.specs.Refusing.{largestSetting}
 use Rattle.reader_record.specs.declared.State.{State}
 use Rattle.cuts.proofs.Later.{lines-first}
 use Rattle.cuts.proofs.Moments.{full-size, of-the-bytes}

@@ -9,7 +9,7 @@ use Rattle.formats.specs.declared.Format.{Format}
 use Rattle.formats.specs.declared.FormatAnswer.the-variants.{Is}
 use Rattle.reader_bits.specs.Lines.{lines, recorded}
 use Rattle.reader_record.specs.Records.{freshState}
-use Rattle.reader.specs.Read.{largestSetting}
+use Rattle.reader_refusals.specs.Refusing.{largestSetting}
 use Rattle.cuts.specs.Driven.{Driven}
 use Rattle.cuts.proofs.Advances.{takes-all, takes-most, takes-one, takes-none}
 use Rattle.cuts.proofs.Demand.{demand-3}

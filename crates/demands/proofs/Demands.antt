@@ -15,7 +15,7 @@ use Rattle.formats.specs.declared.FormatAnswer.the-variants.{Is}
 use Rattle.cuts.specs.Driven.{Driven, lineIn}
 use Rattle.reader_bits.specs.Lines.{recorded}
 use Rattle.reader_record.specs.Records.{freshState}
-use Rattle.reader.specs.Read.{largestSetting}
+use Rattle.reader_refusals.specs.Refusing.{largestSetting}
 use Rattle.cuts.proofs.Demand.{demand-3}
 use Rattle.demands.specs.RoundTrip.{PlainLine, PlainLines, recordingOf}
 use Rattle.demands.proofs.RoundTrip.{round-trip}

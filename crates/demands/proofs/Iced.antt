@@ -22,7 +22,7 @@ use Rattle.wire.specs.Parts.{informationOf, lineOf, dummyOf}
 use Rattle.wire.proofs.Wire.{line-back}
 use Rattle.reader_bits.specs.Lines.{windowBits, isTail, lines, recorded}
 use Rattle.reader_record.specs.Records.{freshState}
-use Rattle.reader.specs.Read.{largestSetting}
+use Rattle.reader_refusals.specs.Refusing.{largestSetting}
 use Rattle.cuts.specs.Driven.{Driven}
 use Rattle.cuts.proofs.Demand.{demand-3}
 use Rattle.writer.specs.Wire.{onWire, wireBytes}

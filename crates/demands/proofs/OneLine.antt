@@ -12,7 +12,7 @@ use Rattle.formats.specs.declared.Format.{Format}
 use Rattle.formats.specs.declared.FormatAnswer.the-variants.{Is}
 use Rattle.reader_bits.specs.Lines.{recorded}
 use Rattle.reader_record.specs.declared.State.{State}
-use Rattle.reader.specs.Read.{largestSetting}
+use Rattle.reader_refusals.specs.Refusing.{largestSetting}
 use Rattle.cuts.specs.Driven.{lineIn, Moment, Standing}
 use Rattle.cuts.proofs.Moments.{of-the-bytes}
 use Rattle.cuts.proofs.Standing.{line-stands}

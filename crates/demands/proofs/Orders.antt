@@ -16,7 +16,7 @@ use Rattle.bits.specs.Bits.{bitsOf, inBase}
 use Rattle.bits.proofs.Stretches.{stretch-length}
 use Rattle.scramble.specs.Step.{stepRefusal}
 use Rattle.sync.specs.Put.{putSyncRefusal}
-use Rattle.reader.specs.Read.{readRefusal}
+use Rattle.reader_refusals.specs.Refusing.{readRefusal}
 use Rattle.writer.specs.Wire.{writeLineRefusal}
 use Rattle.sectors.specs.Layout.{layoutOf}
 use Rattle.sectors.specs.Sector.{answerOf}

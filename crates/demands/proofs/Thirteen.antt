@@ -13,7 +13,7 @@ use Rattle.refusals.proofs.Exactly.{exactly}
 use Rattle.formats.specs.Formats.{lineBytes, formatRefusal}
 use Rattle.reader_record.specs.Records.{possibleOf}
 use Rattle.reader_record.specs.declared.State.{State}
-use Rattle.reader.specs.Read.{largestSetting, readRefusal}
+use Rattle.reader_refusals.specs.Refusing.{largestSetting, readRefusal}
 use Rattle.demands.specs.Orders.{formatTest}
 use Rattle.demands.proofs.Orders.{orders}
 

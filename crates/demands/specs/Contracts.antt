@@ -12,7 +12,7 @@ use Rattle.sync.specs.Put.{PutSyncOk, putSyncLeft}
 use Rattle.sync.specs.declared.SyncPut.{SyncPut}
 use Rattle.reader_record.specs.declared.State.{State}
 use Rattle.reader.specs.Read.{ReadOk, readLeft}
-use Rattle.reader.specs.declared.Answer.{Answer}
+use Rattle.reader_line.specs.declared.Answer.{Answer}
 use Rattle.pixels.specs.Calls.{dataAnswer, dataLeft, pixelsAnswer, pixelsLeft}
 use Rattle.channels.specs.Join.{joinedAnswer, joinedLeft}
 use Rattle.visible.specs.Strip.{StripOk, stripLeft}

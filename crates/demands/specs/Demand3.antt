@@ -9,7 +9,7 @@ use Rattle.bits.specs.Bits.{bitsOf, inARow}
 use Rattle.reader_bits.specs.Lines.{lines, recorded}
 use Rattle.reader_record.specs.Records.{freshState}
 use Rattle.reader_record.specs.declared.State.{State}
-use Rattle.reader.specs.declared.Answer.the-variants.{More, Line}
+use Rattle.reader_line.specs.declared.Answer.the-variants.{More, Line}
 use Rattle.reader.specs.Read.{readAnswer, readLeft, refusalOf, takenBy}
 use Rattle.cuts.specs.Driven.{lentFor, Driven, takenIn, Moment, Standing, bitsRead}
 use Rattle.demands.specs.OneLine.{OneLine}

@@ -22,7 +22,8 @@ use Rattle.sync.specs.Put.{putSyncAnswer, putSyncLeft}
 use Rattle.reader_bits.specs.Lines.{recorded}
 use Rattle.reader_record.specs.Records.{freshState}
 use Rattle.reader_record.specs.declared.State.{State}
-use Rattle.reader.specs.Read.{largestSetting, readAnswer, readLeft}
+use Rattle.reader.specs.Read.{readAnswer, readLeft}
+use Rattle.reader_refusals.specs.Refusing.{largestSetting}
 use Rattle.writer.specs.Wire.{writeLineAnswer, writeLineLeft}
 use Rattle.blocks.specs.declared.marks.Marks.{Marks}
 use Rattle.blocks.specs.declared.assembly.Assembly.{Assembly}

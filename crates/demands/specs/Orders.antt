@@ -16,7 +16,7 @@ use Rattle.scramble.specs.Step.{stepRefusal}
 use Rattle.sync.specs.Put.{putSyncRefusal}
 use Rattle.reader_record.specs.Records.{possibleOf}
 use Rattle.reader_record.specs.declared.State.{State}
-use Rattle.reader.specs.Read.{largestSetting, readRefusal}
+use Rattle.reader_refusals.specs.Refusing.{largestSetting, readRefusal}
 use Rattle.writer.specs.Wire.{writeLineRefusal}
 use Rattle.sectors.specs.declared.layout.Layout.{Layout}
 use Rattle.sectors.specs.Layout.{layoutOf, upperOf, lowerOf, bytesOf}

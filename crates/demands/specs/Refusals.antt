@@ -10,7 +10,7 @@ use Rattle.scramble.specs.declared.StepTaken.{StepTaken}
 use Rattle.sync.specs.Put.{syncNumber}
 use Rattle.reader_record.specs.declared.State.{State}
 use Rattle.reader.specs.Read.{refusalOf, takenBy, lineBy, stateBy}
-use Rattle.reader.specs.declared.Answer.{Answer}
+use Rattle.reader_line.specs.declared.Answer.{Answer}
 use Rattle.visible.specs.Strip.{strippedNumber}
 use Rattle.writer.specs.Wire.{writtenNumber}
 use Rattle.report_record.specs.declared.Report.{Report}

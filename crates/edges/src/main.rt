@@ -7,7 +7,7 @@
 // the line's first bits are those of a tail, they are information bits like any others, and it opens 4B 46 B9 6A.
 ghost use Prim.Native.Nat.{_≤_, _<_};
 ghost use lib.ListN.{length};
-use reader::Answer;
+use reader_line::Answer;
 use reader_record::State;
 use text::Row;
 

@@ -22,7 +22,8 @@ use Rattle.bits.proofs.Bytes.{bits-below}
 use Rattle.reader_bits.specs.Lines.{recorded}
 use Rattle.reader_record.specs.Records.{freshState}
 use Rattle.reader_record.specs.declared.State.{State}
-use Rattle.reader.specs.Read.{largestSetting, readLeft}
+use Rattle.reader.specs.Read.{readLeft}
+use Rattle.reader_refusals.specs.Refusing.{largestSetting}
 use Rattle.cuts.specs.Driven as driven
 use Rattle.cuts.specs.Driven.{lentFor, lineIn, Driven}
 use Rattle.cuts.proofs.Demand.{demand-3}

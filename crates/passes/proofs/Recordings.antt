@@ -14,7 +14,7 @@ use Rattle.bits.specs.Bits.{bitsOf, inARow, Below}
 use Rattle.reader_bits.specs.Lines.{recorded}
 use Rattle.reader_record.specs.Records.{freshState}
 use Rattle.reader_record.specs.declared.State.{State}
-use Rattle.reader.specs.Read.{largestSetting}
+use Rattle.reader_refusals.specs.Refusing.{largestSetting}
 use Rattle.cuts.specs.Driven as driven
 use Rattle.cuts.specs.Driven.{oneBuffer, Driven}
 use Rattle.cuts.proofs.Demand.{driven-ends}

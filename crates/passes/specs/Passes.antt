@@ -7,7 +7,7 @@ use Prim.Native.Nat.{ℕ, suc}
 use lib.ListN.{drop}
 use Rattle.cuts.specs.Driven.{lentFor}
 use Rattle.reader.specs.Read.{readAnswer, readLeft}
-use Rattle.reader.specs.declared.Answer.the-variants.{More, Line}
+use Rattle.reader_line.specs.declared.Answer.the-variants.{More, Line}
 use Rattle.reader_record.specs.declared.State.{State}
 use Rattle.report_record.specs.declared.Report.{Report}
 use Rattle.report.specs.Calls.{withLineAnswer}

@@ -10,7 +10,7 @@ ghost use mathlib.Core.Path.{_≡_};
 ghost use Prim.Native.Nat.{_≤_};
 ghost use Rattle.player.specs.Places.{Places, started};
 use libc::STDIN_FILENO;
-use reader::Answer;
+use reader_line::Answer;
 use reader_record::State;
 use words::Takes;
 
@@ -240,7 +240,7 @@ pub fn opened(usage: &[u8], piece: &mut [u8; PIECE]) -> Player
         return none();
     }
     let setting = command::setting_at(asked.setting);
-    if reader::LARGEST_SETTING < setting {
+    if reader_refusals::LARGEST_SETTING < setting {
         command::refuse_word(b"not a setting, 0 to 6: ", asked.setting, usage);
         return none();
     }

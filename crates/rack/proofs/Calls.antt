@@ -8,9 +8,10 @@ use native.Mathlib.Omega.{arith}
 use Rattle.reader_bits.specs.Call.{Call, more, whole}
 use Rattle.reader_bits.specs.Phase.{Bench}
 use Rattle.reader_record.specs.declared.State.{State}
-use Rattle.reader.specs.declared.Answer.{Answer}
-use Rattle.reader.specs.declared.Answer.the-variants.{Refused, More, Line}
-use Rattle.reader.specs.Read.{readAnswer, readLeft, callOf, callAnswer}
+use Rattle.reader_line.specs.declared.Answer.{Answer}
+use Rattle.reader_line.specs.declared.Answer.the-variants.{Refused, More, Line}
+use Rattle.reader.specs.Read.{readAnswer, readLeft, callOf}
+use Rattle.reader_line.specs.Answers.{callAnswer}
 use Rattle.cuts.specs.Driven.{lentFor}
 use Rattle.cuts.proofs.Cases.{read-cases}
 use Rattle.rack_recording.specs.declared.ReaderState.{ReaderState}

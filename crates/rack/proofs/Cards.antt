@@ -8,7 +8,7 @@ use Rattle.formats.specs.Formats.{formatOf, checkStart}
 use Rattle.formats.specs.declared.Format.{Format}
 use Rattle.formats.specs.declared.FormatAnswer.the-variants.{Is}
 use Rattle.reader_record.specs.Records.{freshState}
-use Rattle.reader.specs.Read.{largestSetting}
+use Rattle.reader_refusals.specs.Refusing.{largestSetting}
 use Rattle.demands.specs.RoundTrip.{Recording}
 use Rattle.demands.specs.Ones.{OtherCard}
 use Rattle.demands.proofs.Cards.{other-cards}

@@ -9,7 +9,7 @@ use Rattle.formats.specs.Formats.{formatOf}
 use Rattle.formats.specs.declared.Format.{Format}
 use Rattle.formats.specs.declared.FormatAnswer.the-variants.{Is}
 use Rattle.reader_record.specs.Records.{freshState}
-use Rattle.reader.specs.Read.{largestSetting}
+use Rattle.reader_refusals.specs.Refusing.{largestSetting}
 use Rattle.demands.specs.RoundTrip.{Recording, ComeBack}
 use Rattle.demands.proofs.Demand2.{demand-2, demand-2-standing}
 use Rattle.sector_rounds.specs.Puts.{Put, Holds, ComesBack}

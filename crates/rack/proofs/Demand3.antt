@@ -13,8 +13,9 @@ use Rattle.formats.specs.declared.FormatAnswer.the-variants.{Is}
 use Rattle.formats.specs.Formats.{formatOf, formatRefusal}
 use Rattle.reader_bits.specs.Lines.{lines}
 use Rattle.reader_record.specs.Records.{freshState}
-use Rattle.reader.specs.declared.Answer.{Answer}
-use Rattle.reader.specs.Read.{largestSetting, settingRefusal, readAnswer}
+use Rattle.reader_line.specs.declared.Answer.{Answer}
+use Rattle.reader.specs.Read.{readAnswer}
+use Rattle.reader_refusals.specs.Refusing.{largestSetting, settingRefusal}
 use Rattle.cuts.proofs.Advances.{takes-most, takes-one, takes-none}
 use Rattle.cuts.specs.Driven.{bitsRead}
 use Rattle.demands.specs.Demand3 as reader

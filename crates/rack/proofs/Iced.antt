@@ -12,7 +12,7 @@ use Rattle.formats.specs.declared.Format.{Format}
 use Rattle.formats.specs.declared.FormatAnswer.the-variants.{Is}
 use Rattle.reader_bits.specs.Lines.{lines, recorded}
 use Rattle.reader_record.specs.Records.{freshState}
-use Rattle.reader.specs.Read.{largestSetting}
+use Rattle.reader_refusals.specs.Refusing.{largestSetting}
 use Rattle.demands.specs.Iced.{Received, receivedOf, Iced, Leading, Even}
 use Rattle.demands.proofs.Iced.{linesIn, leading-dish, evenly}
 use Rattle.rack_recording.specs.Recording.{keptOf}

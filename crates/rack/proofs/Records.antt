@@ -8,8 +8,8 @@ use native.Mathlib.Omega.{arith}
 use lib.Dec.{ltb, eqb}
 use borrow.Author.Tests.{ltb-false, eqb-true, eqb-false}
 use Rattle.reader_record.specs.declared.State.{State}
-use Rattle.reader.specs.declared.Answer.{Answer}
-use Rattle.reader.specs.declared.Answer.the-variants.{Refused, More, Line}
+use Rattle.reader_line.specs.declared.Answer.{Answer}
+use Rattle.reader_line.specs.declared.Answer.the-variants.{Refused, More, Line}
 use Rattle.reader_record.specs.Records.{freshState}
 use Rattle.reader.specs.Read.{readAnswer, readLeft, refusalOf, takenBy}
 use Rattle.cuts.proofs.Keeps.{refused-stays}

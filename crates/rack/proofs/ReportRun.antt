@@ -13,7 +13,8 @@ use Rattle.bits.specs.Bits.{inARow}
 use Rattle.reader_bits.specs.Lines.{recorded}
 use Rattle.reader_record.specs.declared.State.{State}
 use Rattle.reader_record.specs.Records.{freshState}
-use Rattle.reader.specs.Read.{largestSetting, readLeft}
+use Rattle.reader.specs.Read.{readLeft}
+use Rattle.reader_refusals.specs.Refusing.{largestSetting}
 use Rattle.cuts.specs.Driven.{lentFor}
 use Rattle.report_record.specs.declared.Report.{Report}
 use Rattle.report_record.specs.Report.{emptyReport}

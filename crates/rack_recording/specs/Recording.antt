@@ -7,9 +7,10 @@ use lib.Dec.{eqb, ltb}
 use Rattle.refusals.specs.Refusals.{first}
 use Rattle.formats.specs.Formats.{formatRefusal}
 use Rattle.reader_record.specs.declared.State.{State}
-use Rattle.reader.specs.declared.Answer.{Answer}
-use Rattle.reader.specs.declared.Answer.the-variants.{Refused, More, Line}
-use Rattle.reader.specs.Read.{settingRefusal, readAnswer, readLeft, refusalOf, takenBy, lineBy}
+use Rattle.reader_line.specs.declared.Answer.{Answer}
+use Rattle.reader_line.specs.declared.Answer.the-variants.{Refused, More, Line}
+use Rattle.reader.specs.Read.{readAnswer, readLeft, refusalOf, takenBy, lineBy}
+use Rattle.reader_refusals.specs.Refusing.{settingRefusal}
 use Rattle.writer.specs.declared.Written.{Written}
 use Rattle.writer.specs.Wire.{writtenNumber, writtenBytes}
 use Rattle.rack_number.specs.declared.CountAnswer.{CountAnswer}

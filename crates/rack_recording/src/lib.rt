@@ -13,7 +13,7 @@ ghost use Rattle.writer.specs.Wire.{writeLineAnswer, writeLineLeft};
 ghost use Rattle.rack_recording.specs.Recording.{handedOf, keptOf, refusedRead, readGiven, flagRefusal, readOf, lineLeft, writtenGiven};
 use formats::format_refusal;
 use rack_number::CountAnswer;
-use reader::Answer;
+use reader_line::Answer;
 use reader_record::State;
 use refusals::first;
 use writer::Written;
@@ -129,7 +129,7 @@ fn impossible_flag(format: u8, setting: u8) -> u8
 {
     first(
         format_refusal(format),
-        first(reader::setting_refusal(setting), refusals::STATE),
+        first(reader_refusals::setting_refusal(setting), refusals::STATE),
     )
 }
 

@@ -12,9 +12,11 @@ use Rattle.refusals.proofs.Says.{Kind, says-of, says-is}
 use Rattle.reader_bits.specs.Call.{Call, more, whole}
 use Rattle.reader_bits.specs.Phase.{Bench}
 use Rattle.reader_record.specs.declared.State.{State}
-use Rattle.reader.specs.Read.{callOf, callAnswer, callTaken, callWhole, callState, servedAnswer, servedTaken, servedWhole, servedState, readRefusal, readAnswer, refusalOf, takenBy, lineBy, stateBy, ReadOk}
-use Rattle.reader.specs.declared.Answer.{Answer}
-use Rattle.reader.specs.declared.Answer.the-variants.{Refused, More, Line}
+use Rattle.reader.specs.Read.{callOf, callTaken, callWhole, callState, servedAnswer, servedTaken, servedWhole, servedState, readAnswer, refusalOf, takenBy, lineBy, stateBy, ReadOk}
+use Rattle.reader_line.specs.Answers.{callAnswer}
+use Rattle.reader_refusals.specs.Refusing.{readRefusal}
+use Rattle.reader_line.specs.declared.Answer.{Answer}
+use Rattle.reader_line.specs.declared.Answer.the-variants.{Refused, More, Line}
 
 -- whether a line is complete, the bytes taken, the record
 abbrev Values : Type 0

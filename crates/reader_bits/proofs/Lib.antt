@@ -1,5 +1,4 @@
 pub mod Resume
 pub mod TailTest
 pub mod Masks
-pub mod Searching
-pub mod Filling
+pub mod Going

@@ -1,14 +1,14 @@
--- `reader_bits::seek` meets its contract: at each bit the call that was begun is the call that is on its way. Assumes nothing.
+-- `tail_search::seek` meets its contract: at each bit the call that was begun is the call that is on its way. Assumes nothing.
 use mathlib.Core.Path.{sym, _∙_}
 use Prim.Native.Nat.{_-_, _/_, _^_}
 use native.Mathlib.Omega.{arith}
 use lib.Bits.{mask-lt}
 use lib.ListN.{length}
 use Rattle.reader_bits.proofs.Masks.{bit-and, under-63}
-use Rattle.reader_bits.proofs.Searching.{Way, way-short, way-miss, way-hit, way-byte, way-end}
+use Rattle.tail_search.proofs.Searching.{Way, way-short, way-miss, way-hit, way-byte, way-end}
 use borrow.Author.Needs.{needs}
-use Rattle.reader_bits.proofs.seek.Statement.{statement}
-use Rattle.reader_bits.proofs.seek.Tie as tie
+use Rattle.tail_search.proofs.seek.Statement.{statement}
+use Rattle.tail_search.proofs.seek.Tie as tie
 
 abbrev Inv-loop : tie.InvT-loop
 Inv-loop setting piece count0 search0 left0 byte0 count₀ search₀ left₀ byte at count search left =

@@ -14,13 +14,14 @@ use Rattle.bits.proofs.Push.{push-lt}
 use Rattle.scramble.proofs.Steps.{next-lt}
 use Rattle.scramble.proofs.Wire.{plain-lt}
 use Rattle.scramble.specs.Wire.{plainBit}
 use Rattle.reader_bits.specs.Call.{bitOf, more, whole}
-use Rattle.reader_bits.specs.Loops.{stepOf, doneOf, going, FillIn, FilledOk}
+use Rattle.reader_bits.specs.Loops.{stepOf, doneOf, going}
+use Rattle.line_bits.specs.Reading.{FillIn, FilledOk}
 use Rattle.reader_bits.specs.Phase.{seeking, within, phaseNext, bufferNext, completes}
-use Rattle.reader_bits.specs.declared.Filled.the-variants.{Whole, Part}
+use Rattle.line_bits.specs.declared.Filled.the-variants.{Whole, Part}
 use Rattle.reader_bits.proofs.Resume.{resume-bit}
 use Rattle.reader_bits.proofs.Masks.{bit-and}
-use Rattle.reader_bits.proofs.Searching.{going-byte, going-end}
+use Rattle.reader_bits.proofs.Going.{going-byte, going-end}
 
 module _ (setting : ℕ) (p : List ℕ) (t : ℕ) (buf : List ℕ) (place r q n v : ℕ) where
   abbrev x : ℕ

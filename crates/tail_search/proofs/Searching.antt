@@ -14,23 +14,17 @@ use Rattle.bits.specs.Bits.{digits}
 use Rattle.bits.proofs.Push.{push-lt}
 use Rattle.formats.specs.Formats.{lineBytes}
 use Rattle.scramble.specs.Sync.{fifteenOnes}
 use Rattle.reader_bits.specs.Call.{bitOf, more}
-use Rattle.reader_bits.specs.Loops.{stepOf, doneOf, going, SoughtOk}
+use Rattle.reader_bits.specs.Loops.{stepOf, doneOf, going}
+use Rattle.tail_search.specs.Search.{SoughtOk}
 use Rattle.reader_bits.specs.Lines.{isTail}
 use Rattle.reader_bits.specs.Phase.{Phase, seeking, within, phaseNext, bufferNext, completes}
-use Rattle.reader_bits.specs.declared.Sought.the-variants.{Found, Nothing}
-use Rattle.reader_bits.proofs.Resume.{bit-lt, resume-bit, resume-byte, resume-end}
+use Rattle.tail_search.specs.declared.Sought.the-variants.{Found, Nothing}
+use Rattle.reader_bits.proofs.Resume.{bit-lt, resume-bit}
+use Rattle.reader_bits.proofs.Going.{going-byte, going-end}
 use Rattle.reader_bits.proofs.Masks.{stays}
 
 module _ (setting : ℕ) (p : List ℕ) (t : ℕ) (buf : List ℕ) where
-  pub going-byte : (f : Phase) (v : ℕ) → t < length p → going setting p t f buf 0 v ≡ going setting p (suc t) f buf 8 (getD p t 0)
-  unfolding going
-  going-byte f v h = resume-byte (stepOf setting) doneOf p t (f, buf) v h
-
-  pub going-end : (f : Phase) (v : ℕ) → length p ≤ t → going setting p t f buf 0 v ≡ more t (f, buf) 0 0
-  unfolding going
-  going-end f v h = resume-end (stepOf setting) doneOf p t (f, buf) v h
-
   seek-bit : (c w n v : ℕ) → going setting p t (seeking c w) buf (suc n) v ≡ going setting p t (phaseNext 64 (isTail setting) lineBytes (seeking c w) (bitOf n v)) buf n v
   unfolding going completes bufferNext
   seek-bit c w n v = resume-bit (stepOf setting) doneOf p t (seeking c w, buf) n v

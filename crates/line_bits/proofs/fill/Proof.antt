@@ -1,4 +1,4 @@
--- `reader_bits::fill` meets its contract: at each bit the call that was begun is the call that is on its way. Assumes nothing.
+-- `line_bits::fill` meets its contract: at each bit the call that was begun is the call that is on its way. Assumes nothing.
 use mathlib.Core.Path.{_∙_}
 use Prim.Native.Nat.{_-_, _/_, _^_, _<_}
 use native.Mathlib.Nat.{zero-lt-suc}
@@ -6,10 +6,10 @@ use native.Mathlib.Omega.{arith}
 use lib.Bits.{mask-lt}
 use lib.ListN.{length, length-set}
 use Rattle.scramble.proofs.Wire.{plain-lt}
-use Rattle.reader_bits.proofs.Filling.{Fills, waiting-lt, plain-of, fills-wait, fills-store, fills-whole, fills-byte, fills-end, fills-here, fills-trans}
+use Rattle.line_bits.proofs.Filling.{Fills, waiting-lt, plain-of, fills-wait, fills-store, fills-whole, fills-byte, fills-end, fills-here, fills-trans}
 use borrow.Author.Needs.{needs}
-use Rattle.reader_bits.proofs.fill.Statement.{statement}
-use Rattle.reader_bits.proofs.fill.Tie as tie
+use Rattle.line_bits.proofs.fill.Statement.{statement}
+use Rattle.line_bits.proofs.fill.Tie as tie
 
 abbrev Inv-loop2 : tie.InvT-loop2
 Inv-loop2 piece at0 left0 byte0 place0 register0 waiting0 line₀ at left₀ byte place₀ register₀ waiting₀ line left place register waiting =

@@ -1,8 +1,8 @@
--- `reader_bits::low` meets its contract. Assumes nothing.
+-- `line_bits::low` meets its contract. Assumes nothing.
 use Rattle.reader_bits.proofs.Masks.{low-is, one-shl}
 use borrow.Author.Needs.{needs}
-use Rattle.reader_bits.proofs.low.Statement.{statement}
-use Rattle.reader_bits.proofs.low.Tie as tie
+use Rattle.line_bits.proofs.low.Statement.{statement}
+use Rattle.line_bits.proofs.low.Tie as tie
 
 shl-result : tie.Need-shl-result
 shl-result c = search needs

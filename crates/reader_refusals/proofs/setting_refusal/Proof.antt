@@ -1,7 +1,7 @@
--- `reader::setting_refusal` meets its contract. Assumes nothing.
+-- `reader_refusals::setting_refusal` meets its contract. Assumes nothing.
 use borrow.Author.Needs.{needs}
-use Rattle.reader.proofs.setting_refusal.Statement.{statement}
-use Rattle.reader.proofs.setting_refusal.Tie as tie
+use Rattle.reader_refusals.proofs.setting_refusal.Statement.{statement}
+use Rattle.reader_refusals.proofs.setting_refusal.Tie as tie
 
 cast-outside : tie.Need-cast-outside
 cast-outside c = search needs

@@ -1,10 +1,10 @@
--- `reader::read_refusal` meets its contract. Assumes nothing.
+-- `reader_refusals::read_refusal` meets its contract. Assumes nothing.
 use mathlib.Core.Path.{ap₂, _∙_}
 use borrow.Author.Needs.{needs}
 use Rattle.refusals.specs.Refusals.{first}
-use Rattle.reader.specs.Read.{readRefusal}
-use Rattle.reader.proofs.read_refusal.Statement.{statement}
-use Rattle.reader.proofs.read_refusal.Tie as tie
+use Rattle.reader_refusals.specs.Refusing.{readRefusal}
+use Rattle.reader_refusals.proofs.read_refusal.Statement.{statement}
+use Rattle.reader_refusals.proofs.read_refusal.Tie as tie
 
 format-refusal-requires : tie.Need-format-refusal-requires
 format-refusal-requires c κs = search needs
