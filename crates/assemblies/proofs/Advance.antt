@@ -24,7 +24,8 @@ use Rattle.blocks.proofs.Rows.{sound}
 use Rattle.revisions.specs.Carried.{revisionsIn, foreign, foreignRefusal, remembered}
 use Rattle.revisions.proofs.Ways.{remembered-own}
 use Rattle.segments.specs.declared.Added.the-variants.{Refused}
-use Rattle.segments.specs.Assembly.{segmentOf, differs, copyRefusal, placeRefusal, marksWith, assemblyWith, placedOn, blockWith, segmentIn, carriedRefusal, addSegmentRefusal, assemblyAfter, addSegmentAnswer, addSegmentLeft}
+use Rattle.segments.specs.Assembly.{marksWith, assemblyWith, placedOn, blockWith, segmentIn, carriedRefusal, addSegmentRefusal, assemblyAfter, addSegmentAnswer, addSegmentLeft}
+use Rattle.copies.specs.Copies.{segmentOf, differs, copyRefusal, placeRefusal}
 use Rattle.segments.proofs.Known.{Carries, carries}
 use Rattle.assemblies.specs.Runs.{State, step, answerTo, taken}
 use Rattle.assemblies.proofs.Marking.{marked-own, marked-other, marked-none}

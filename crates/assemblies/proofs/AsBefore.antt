@@ -18,7 +18,8 @@ use Rattle.blocks.specs.Record.{started, revisionOf}
 use Rattle.revisions.specs.Carried.{revisionsIn, foreign, foreignRefusal}
 use Rattle.segments.specs.declared.Added.{Added}
 use Rattle.segments.specs.declared.Added.the-variants.{Refused}
-use Rattle.segments.specs.Assembly.{copyRefusal, placeRefusal, marksWith, assemblyWith, placedOn, blockWith, segmentIn, carriedRefusal, addSegmentRefusal, addedSegment, addedNew, assemblyAfter, addSegmentAnswer, addSegmentLeft}
+use Rattle.segments.specs.Assembly.{marksWith, assemblyWith, placedOn, blockWith, segmentIn, carriedRefusal, addSegmentRefusal, addedSegment, addedNew, assemblyAfter, addSegmentAnswer, addSegmentLeft}
+use Rattle.copies.specs.Copies.{copyRefusal, placeRefusal}
 use Rattle.assemblies.specs.Runs.{State, answerTo, step, run}
 use Rattle.assemblies.specs.Before.{earlierRefusal, earlierValues, Earlier, earlierStep, earlierRun}
 

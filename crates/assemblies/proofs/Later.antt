@@ -13,7 +13,8 @@ use Rattle.blocks.specs.Blocks.{blockOf, segmentBytes}
 use Rattle.blocks.specs.Marking.{marked}
 use Rattle.revisions.specs.Carried.{revisionsIn, foreign, foreignRefusal}
 use Rattle.segments.specs.declared.Added.the-variants as added
-use Rattle.segments.specs.Assembly.{segmentOf, differs, copyRefusal, placeRefusal, marksWith, assemblyWith, placed, placeAnswer, blockWith, placeLeft}
+use Rattle.segments.specs.Assembly.{marksWith, assemblyWith, placed, placeAnswer, blockWith, placeLeft}
+use Rattle.copies.specs.Copies.{segmentOf, differs, copyRefusal, placeRefusal}
 use Rattle.revisions.proofs.Ways.{remembered-kept}
 use Rattle.assemblies.proofs.Advance.{marked-started}
 

@@ -13,7 +13,8 @@ use Rattle.bits.specs.Bits.{stretch}
 use Rattle.blocks.specs.declared.block.Block.{Block}
 use Rattle.blocks.specs.Blocks.{blocks, blockOf, segmentBytes}
 use Rattle.blocks.specs.Marking.{allMarks, marked}
-use Rattle.segments.specs.Assembly.{segmentOf, segmentIn}
+use Rattle.segments.specs.Assembly.{segmentIn}
+use Rattle.copies.specs.Copies.{segmentOf}
 use Rattle.blocks.specs.declared.assembly.Revisions.{Revisions}
 use Rattle.assemblies.specs.Runs.{State, begun, step, run, Taken, firstWith, named, All, Finished}
 use Rattle.assemblies.proofs.Advance.{Advanced, advances}

@@ -17,7 +17,7 @@ use Rattle.bits.proofs.Writes.{room}
 use Rattle.blocks.specs.declared.block.Block.{Block}
 use Rattle.blocks.specs.Blocks.{segmentBytes, Sound}
 use Rattle.blocks.proofs.Rows.{in-block, in-line}
-use Rattle.segments.specs.Assembly.{segmentOf, storedOf}
+use Rattle.copies.specs.Copies.{segmentOf, storedOf}
 use Rattle.assemblies.specs.Runs.{sideBySide}
 
 -- ---- a list with n elements t put from a place on

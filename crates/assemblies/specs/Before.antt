@@ -8,7 +8,8 @@ use Rattle.refusals.specs.Refusals.{first, kept}
 use Rattle.blocks.specs.declared.marks.Marks.{Marks}
 use Rattle.blocks.specs.Blocks.{blockOf}
 use Rattle.blocks.specs.Marking.{marked}
-use Rattle.segments.specs.Assembly.{copyRefusal, marksWith, blockWith, segmentIn, carriedRefusal}
+use Rattle.segments.specs.Assembly.{marksWith, blockWith, segmentIn, carriedRefusal}
+use Rattle.copies.specs.Copies.{copyRefusal}
 
 -- 1, 12, 4, 2, 5, 6, 7, 8
 unfoldable pub earlierRefusal : ℕ → Marks → List ℕ → ℕ → List ℕ → ℕ

@@ -15,7 +15,8 @@ use Rattle.blocks.specs.Record.{revisionOf}
 use Rattle.revisions.specs.Carried.{revisionsIn}
 use Rattle.segments.specs.declared.Added.{Added}
 use Rattle.segments.specs.declared.Added.the-variants.{Is, Refused}
-use Rattle.segments.specs.Assembly.{segmentOf, segmentIn, addedNumber, assemblyAfter, addSegmentAnswer, addSegmentLeft}
+use Rattle.segments.specs.Assembly.{segmentIn, addedNumber, assemblyAfter, addSegmentAnswer, addSegmentLeft}
+use Rattle.copies.specs.Copies.{segmentOf}
 
 -- an assembly on its way: its record and its block buffer
 pub record State : Type 0 where

@@ -49,7 +49,8 @@ use Rattle.blocks.specs.Blocks.{blockOf, blockRefusal}
 use Rattle.blocks.specs.Marking.{marksRefusal, unfinishedRefusal}
 use Rattle.blocks.specs.declared.assembly.Assembly.{Assembly}
 use Rattle.revisions.specs.Carried.{revisionsIn, foreign, foreignRefusal}
-use Rattle.segments.specs.Assembly.{differs, copyRefusal, placeRefusal, lentRefusal, carriedRefusal, addSegmentRefusal}
+use Rattle.segments.specs.Assembly.{lentRefusal, carriedRefusal, addSegmentRefusal}
+use Rattle.copies.specs.Copies.{differs, copyRefusal, placeRefusal}
 use Rattle.entries.specs.Entries.{entryRefusal, gridRefusal}
 use Rattle.calibration.specs.Tables.{levelRefusal}
 use Rattle.demands.specs.Orders.{Orders, badPart, someOver, docTests, fieldTests, countTests, dateTests, segmentTest, carriedTests, copyTest}

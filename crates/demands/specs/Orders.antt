@@ -43,7 +43,8 @@ use Rattle.blocks.specs.declared.assembly.Assembly.{Assembly}
 use Rattle.blocks.specs.Blocks.{blockOf, segmentBytes, mapping, orbit, manam, calibration2}
 use Rattle.blocks.specs.Marking.{marked, allMarks}
 use Rattle.revisions.specs.Carried.{revisionsIn, foreign}
-use Rattle.segments.specs.Assembly.{segmentOf, addSegmentRefusal}
+use Rattle.segments.specs.Assembly.{addSegmentRefusal}
+use Rattle.copies.specs.Copies.{segmentOf}
 use Rattle.entries.specs.Entries.{revisionRefusal, mappingRefusal, elementsRefusal}
 use Rattle.calibration.specs.declared.Levels.{Levels}
 use Rattle.calibration.specs.Tables.{levelRefusal}

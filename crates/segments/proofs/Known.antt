@@ -1,35 +1,33 @@
 -- What is known once a line's segment is added or found the same: which block, which segment, and that the bytes are
 -- there. Assumes nothing.
 use mathlib.Core.Path.{_≡_, refl, sym, ap, ap₂, subst, _∙_}
-use mathlib.Core.Bool.{Bool, true, false, not, _||_, _&&_, cond}
-use mathlib.Core.List.{List, _++_}
-use Prim.Native.Nat.{ℕ, zero, suc, _+_, _*_, _-_, _≤_}
+use mathlib.Core.Bool.{Bool, true, false, not, _||_}
+use mathlib.Core.List.{List}
+use Prim.Native.Nat.{ℕ, _≤_}
 use native.Mathlib.Omega.{arith}
 use lib.Dec.{eqb, ltb, leb}
-use lib.ListN.{length, take, drop}
+use lib.ListN.{length}
 use borrow.Author.Tests.{ltb-false, leb-true, not-false}
 use Rattle.refusals.specs.Refusals.{first, when, shortOf, outsideOf, answered, kept}
 use Rattle.refusals.proofs.Words.{first-none, none-first, none-second, none-when, kept-some, kept-none, enough, Inside, inside, or-false}
-use Rattle.refusals.proofs.Chains.{first-zero}
 use Rattle.refusals.proofs.Given.{given-some, given-none}
 use Rattle.refusals.proofs.Says.{Says}
 use Rattle.formats.specs.Formats.{lineBytes, formatRefusal}
-use Rattle.bits.specs.Bits.{stretch, same}
 use Rattle.document.specs.Place.{docByte, docRefusal}
 use Rattle.document.specs.declared.segments.SubCommutation.{SubCommutation}
 use Rattle.document.specs.Segments.{segmentRefusal, subCommutationRefusal, SubCommutationOk}
 use Rattle.document.proofs.Settled.{sub-kind}
 use Rattle.blocks.specs.declared.block.Block.{Block}
 use Rattle.blocks.specs.declared.marks.Marks.{Marks}
-use Rattle.blocks.specs.Blocks.{blockOf, segmentBytes, blockRefusal}
+use Rattle.blocks.specs.Blocks.{blockOf, blockRefusal}
 use Rattle.blocks.specs.Marking.{allMarks, marked, withMark, marksRefusal}
-use Rattle.blocks.proofs.Rows.{in-block, in-line}
 use Rattle.blocks.specs.declared.assembly.Revisions.{Revisions}
 use Rattle.blocks.specs.declared.assembly.Assembly.{Assembly}
-use Rattle.revisions.specs.Carried.{revisionsIn, foreignRefusal, remembered}
+use Rattle.revisions.specs.Carried.{revisionsIn, remembered}
 use Rattle.segments.specs.declared.Added.{Added}
 use Rattle.segments.specs.declared.Added.the-variants as added
-use Rattle.segments.specs.Assembly.{segmentOf, storedOf, Placeable, differs, differsRefusal, copyRefusal, placeRefusal, marksWith, assemblyWith, placed, placedOn, placeAnswer, blockWith, placeLeft, segmentIn, lentRefusal, carriedRefusal, CarriedOk, addSegmentRefusal, addSegmentAnswer, addSegmentLeft}
+use Rattle.segments.specs.Assembly.{marksWith, assemblyWith, placed, placedOn, placeAnswer, blockWith, placeLeft, segmentIn, lentRefusal, carriedRefusal, CarriedOk, addSegmentRefusal, addSegmentAnswer, addSegmentLeft}
+use Rattle.copies.specs.Copies.{storedOf, placeRefusal}
 
 -- WHAT IS KNOWN of a line that carries a segment
 pub record Carries (m : Marks) (line : List ℕ) (n given : ℕ) : Type 0 where
@@ -90,37 +88,6 @@ module _ (f : ℕ) (a : Assembly) (line : List ℕ) (n : ℕ) (block : List ℕ)
         ap (λ (k : ℕ). answered added.Refused k (placedOn a line s)) none,
         ap (λ (k : ℕ). kept k block (blockWith (blockOf n) (a .marks) line s block)) none,
       )
-
--- ---- the bytes of a segment, in the line and in the block
-
-module _ (b : Block) (line : List ℕ) (s : ℕ) (block : List ℕ) where
-  pub fits-block : Placeable b line s block → s * segmentBytes b + segmentBytes b ≤ length block
-  fits-block h = in-block b s (length block) (h .row) (h .small) (h .room)
-
-  pub fits-line : Placeable b line s block → b .first - 1 + segmentBytes b ≤ length line
-  fits-line h = in-line b (length line) (h .row) (h .long)
-
-  abbrev pub Compared : Bool → Type 0
-  Compared t = same (stretch line (b .first - 1) (segmentBytes b)) (stretch block (s * segmentBytes b) (segmentBytes b)) ≡ t
-
-  pub same-bytes : Compared true → 0 ≡ differsRefusal b line s block
-  unfolding differsRefusal differs segmentOf when
-  same-bytes e = rw e refl
-
-  pub other-bytes : Compared false → 8 ≡ differsRefusal b line s block
-  unfolding differsRefusal differs segmentOf when
-  other-bytes e = rw e refl
-
--- ---- what refuses a segment by what the assembly holds, as the code goes
-
-module _ (n : ℕ) (a : Assembly) (carried : Revisions) (line : List ℕ) (s : ℕ) (block : List ℕ) (k : ℕ) (foreign : k ≡ foreignRefusal n a carried) where
-  pub refused-stored : (d : ℕ) (b : Block) → marked (a .marks) s ≡ true → d ≡ differsRefusal b line s block → b ≡ blockOf n → (r : ℕ) → r ≡ first k d → r ≡ placeRefusal n a carried line s block
-  unfolding placeRefusal copyRefusal differsRefusal
-  refused-stored d b h e own r told = told ∙ ap₂ first foreign (e ∙ ap (λ (x : Block). when (differs x line s block) 8) own ∙ rw h refl)
-
-  pub refused-new : marked (a .marks) s ≡ false → k ≡ placeRefusal n a carried line s block
-  unfolding placeRefusal copyRefusal when
-  refused-new h = foreign ∙ rw h (sym (first-zero (foreignRefusal n a carried)))
 
 -- ---- a segment in its place, as the code goes
 

@@ -1,59 +1,27 @@
 -- A segment of a block, out of a line: a first copy is stored and marked, an equal later copy changes nothing, and a
 -- different one is refused, as is one of a foreign revision. Refusals stand in the order in which they are tested. Assumes nothing.
-use Prim.Native.Nat.{ℕ, _+_, _*_, _-_, _≤_}
-use mathlib.Core.Bool.{Bool, false, not, _&&_, cond}
-use mathlib.Core.List.{List, _++_}
+use Prim.Native.Nat.{ℕ}
+use mathlib.Core.Bool.{Bool, false, not, cond}
+use mathlib.Core.List.{List}
 use mathlib.Core.Path.{_≡_}
-use lib.ListN.{length, take, drop}
-use Rattle.refusals.specs.Refusals.{first, when, shortOf, answered, kept, Genuine}
+use lib.ListN.{length}
+use Rattle.refusals.specs.Refusals.{first, shortOf, answered, kept, Genuine}
 use Rattle.formats.specs.Formats.{lineBytes, formatRefusal}
-use Rattle.bits.specs.Bits.{stretch, same}
 use Rattle.document.specs.declared.segments.SubCommutation.{SubCommutation}
 use Rattle.document.specs.declared.segments.SubCommutation.the-variants as sub
 use Rattle.document.specs.Place.{docByte}
 use Rattle.document.specs.Segments.{subNumber, subValues, subCommutationRefusal}
 use Rattle.blocks.specs.declared.block.Block.{Block}
 use Rattle.blocks.specs.declared.marks.Marks.{Marks}
-use Rattle.blocks.specs.declared.assembly.Revisions.{Revisions}
 use Rattle.blocks.specs.declared.assembly.Assembly.{Assembly}
-use Rattle.blocks.specs.Blocks.{blockOf, segmentBytes, Sound, blockRefusal}
+use Rattle.blocks.specs.Blocks.{blockOf, blockRefusal}
 use Rattle.blocks.specs.Marking.{marked, withMark, marksRefusal}
-use Rattle.revisions.specs.Carried.{revisionsIn, foreignRefusal, remembered}
+use Rattle.revisions.specs.Carried.{revisionsIn, remembered}
+use Rattle.copies.specs.Copies.{storedOf, placeRefusal}
 use Rattle.segments.specs.declared.Added.{Added}
 use Rattle.segments.specs.declared.Added.the-variants.{Is, Refused}
 
 -- ---- one segment
-
--- the bytes that a line has for a block
-unfoldable pub segmentOf : Block → List ℕ → List ℕ
-segmentOf b line = stretch line (b .first - 1) (segmentBytes b)
-
--- the block buffer with a line's bytes stored for segment s: those that stand for it there are
--- `stretch block (s * segmentBytes b) (segmentBytes b)`
-unfoldable pub storedOf : Block → List ℕ → ℕ → List ℕ → List ℕ
-storedOf b line s block = take (s * segmentBytes b) block ++ segmentOf b line ++ drop (s * segmentBytes b + segmentBytes b) block
-
--- what the code asks before it looks at the bytes of a segment
-pub record Placeable (b : Block) (line : List ℕ) (s : ℕ) (block : List ℕ) : Type 0 where
-  pub row : Sound b
-  pub small : s ≤ 24
-  pub long : lineBytes ≤ length line
-  pub room : b .size ≤ length block
-
--- the bytes that a line has for segment s are not the stored ones
-unfoldable pub differs : Block → List ℕ → ℕ → List ℕ → Bool
-differs b line s block = not (same (segmentOf b line) (stretch block (s * segmentBytes b) (segmentBytes b)))
-
-unfoldable pub differsRefusal : Block → List ℕ → ℕ → List ℕ → ℕ
-differsRefusal b line s block = when (differs b line s block) 8
-
--- 8: the segment is marked, and its bytes differ from the stored ones
-unfoldable pub copyRefusal : Block → Marks → List ℕ → ℕ → List ℕ → ℕ
-copyRefusal b m line s block = when (marked m s && differs b line s block) 8
-
--- 14, 8: by what the assembly holds
-unfoldable pub placeRefusal : ℕ → Assembly → Revisions → List ℕ → ℕ → List ℕ → ℕ
-placeRefusal n a carried line s block = first (foreignRefusal n a carried) (copyRefusal (blockOf n) (a .marks) line s block)
 
 -- the marks with segment s: as they were where it is marked already
 unfoldable pub marksWith : Marks → ℕ → Marks

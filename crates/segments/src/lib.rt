@@ -1,32 +1,30 @@
 // The segments of a block, as the lines bring them, in any order and each as often as it comes, put into an assembly.
 //
 // The contracts cite `specs/Assembly.antt`: `AddSegmentOk` gives the number of the refusal and the values of the answer,
-// `addSegmentLeft` every lent byte, for every input; refusals stand in the paper's order. That a finished block is its segments,
-// whatever order they came in, and of one revision of the tables, is in `assemblies`.
+// `addSegmentLeft` every lent byte, for every input; refusals stand in the paper's order. What one copy of a segment is tested for,
+// and how it is stored, is in `copies`. That a finished block is its segments, whatever order they came in, and of one revision of
+// the tables, is in `assemblies`.
 //
 // No public function has a `requires`. A buffer may be longer than its block.
 ghost use mathlib.Core.Path.{_≡_};
 ghost use Rattle.blocks.specs.Blocks.{blockOf};
-ghost use Rattle.segments.specs.Assembly.{Placeable, differsRefusal, storedOf, placeRefusal, placeAnswer, placeLeft, lentRefusal, CarriedOk, AddSegmentOk, addSegmentLeft};
+ghost use Rattle.copies.specs.Copies.{Placeable};
+ghost use Rattle.segments.specs.Assembly.{placeAnswer, placeLeft, lentRefusal, CarriedOk, AddSegmentOk, addSegmentLeft};
 use blocks::assembly::Assembly;
-use blocks::assembly::Revisions;
-use blocks::block::Block;
-use blocks::block::SEGMENTS;
 use blocks::block::block_of;
 use blocks::block::block_refusal;
 use blocks::marks::Marks;
 use blocks::marks::is_marked;
 use blocks::marks::marks_refusal;
 use blocks::marks::with_mark;
+use copies::place_refusal;
+use copies::store;
 use document::segments::SubCommutation;
 use document::segments::sub_commutation;
 use formats::Format;
 use formats::format_refusal;
-use octets::copy;
-use octets::same;
 use refusals::first;
 use refusals::short;
-use revisions::foreign_refusal;
 use revisions::remembered;
 use revisions::revisions_in;
 
@@ -42,54 +40,6 @@ pub struct Placed {
 pub enum Added {
     Is(Placed),
     Refused(u8),
-}
-
-// Inner. 8 where the bytes that a line has for a segment are not the stored ones; else 0.
-fn differs_refusal(line: &[u8], b: Block, segment: u8, block: &[u8]) -> u8
-    requires { ⌜ Placeable b (now line) segment (now block) ⌝ }
-    ensures { λ r. ⌜ r ≡ differsRefusal b (now (line .entry)) segment (now (block .entry)) ⌝ }
-{
-    let n = b.size / SEGMENTS;
-    let from = b.first - 1;
-    let s = segment as usize;
-    let at = s * n;
-    if same(line, from, block, at, n) {
-        return 0;
-    }
-    refusals::SEGMENT
-}
-
-// Inner. The bytes that a line has for a segment, stored in its place.
-fn store(line: &[u8], b: Block, segment: u8, block: &mut [u8])
-    requires { ⌜ Placeable b (now line) segment (now block) ⌝ }
-    ensures { λ _. ⌜ now (block .exit) ≡ storedOf b (now (line .entry)) segment (now (block .entry)) ⌝ }
-{
-    let n = b.size / SEGMENTS;
-    let from = b.first - 1;
-    let s = segment as usize;
-    let to = s * n;
-    copy(line, from, n, block, to);
-}
-
-// Inner. What refuses a segment by what the assembly holds: 14 where the line is of a foreign revision, also where the segment is
-// stored already; then 8 where it is stored and differs; else 0.
-fn place_refusal(
-    number: u8,
-    assembly: Assembly,
-    carried: Revisions,
-    line: &[u8],
-    segment: u8,
-    block: &[u8],
-) -> u8
-    requires { ⌜ Placeable (blockOf number) (now line) segment (now block) ⌝ }
-    ensures { λ r. ⌜ r ≡ placeRefusal number assembly carried (now (line .entry)) segment (now (block .entry)) ⌝ }
-{
-    let foreign = foreign_refusal(number, assembly, carried);
-    if !is_marked(assembly.marks, segment) {
-        return foreign;
-    }
-    let differs = differs_refusal(line, block_of(number), segment, block);
-    first(foreign, differs)
 }
 
 // Inner. A segment in its place: stored and marked where it is new, and the revisions remembered.

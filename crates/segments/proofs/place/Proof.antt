@@ -4,7 +4,7 @@ use denote.Ref.{now}
 use Rattle.blocks.specs.declared.block.Block.{Block}
 use Rattle.blocks.specs.declared.assembly.Revisions.{Revisions}
 use Rattle.revisions.specs.Carried.{revisionsIn, remembered}
-use Rattle.segments.specs.Assembly.{Placeable, placeRefusal}
+use Rattle.copies.specs.Copies.{Placeable, placeRefusal}
 use Rattle.segments.proofs.Known.{placed-refused, placed-again, placed-new}
 use borrow.Author.Needs.{needs}
 use Rattle.segments.proofs.place.Statement.{statement}

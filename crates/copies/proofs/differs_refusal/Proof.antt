@@ -1,10 +1,10 @@
--- `segments::differs_refusal` meets its contract. Assumes nothing.
+-- `copies::differs_refusal` meets its contract. Assumes nothing.
 use mathlib.Core.Path.{sym, _∙_}
 use native.Mathlib.Omega.{arith}
-use Rattle.segments.proofs.Known.{fits-block, fits-line, same-bytes, other-bytes}
+use Rattle.copies.proofs.Bytes.{fits-block, fits-line, same-bytes, other-bytes}
 use borrow.Author.Needs.{needs}
-use Rattle.segments.proofs.differs_refusal.Statement.{statement}
-use Rattle.segments.proofs.differs_refusal.Tie as tie
+use Rattle.copies.proofs.differs_refusal.Statement.{statement}
+use Rattle.copies.proofs.differs_refusal.Tie as tie
 
 sub-from : tie.Need-sub-from
 sub-from c = omega (arith, c .before .before .before .before .pre .row .starts)

@@ -1,10 +1,10 @@
--- `segments::store` meets its contract. Assumes nothing.
+-- `copies::store` meets its contract. Assumes nothing.
 use native.Mathlib.Omega.{arith}
-use Rattle.segments.specs.Assembly.{segmentOf, storedOf}
-use Rattle.segments.proofs.Known.{fits-block, fits-line}
+use Rattle.copies.specs.Copies.{segmentOf, storedOf}
+use Rattle.copies.proofs.Bytes.{fits-block, fits-line}
 use borrow.Author.Needs.{needs}
-use Rattle.segments.proofs.store.Statement.{statement}
-use Rattle.segments.proofs.store.Tie as tie
+use Rattle.copies.proofs.store.Statement.{statement}
+use Rattle.copies.proofs.store.Tie as tie
 
 sub-from : tie.Need-sub-from
 sub-from c = omega (arith, c .before .before .before .before .pre .row .starts)

@@ -1,13 +1,13 @@
--- `segments::place_refusal` meets its contract. Assumes nothing.
+-- `copies::place_refusal` meets its contract. Assumes nothing.
 use mathlib.Core.Path.{sym, subst, _∙_}
 use denote.Ref.{now}
 use borrow.Author.Tests.{not-true, not-false}
 use Rattle.blocks.specs.declared.block.Block.{Block}
-use Rattle.segments.specs.Assembly.{Placeable}
-use Rattle.segments.proofs.Known.{refused-stored, refused-new}
+use Rattle.copies.specs.Copies.{Placeable}
+use Rattle.copies.proofs.Bytes.{refused-stored, refused-new}
 use borrow.Author.Needs.{needs}
-use Rattle.segments.proofs.place_refusal.Statement.{statement}
-use Rattle.segments.proofs.place_refusal.Tie as tie
+use Rattle.copies.proofs.place_refusal.Statement.{statement}
+use Rattle.copies.proofs.place_refusal.Tie as tie
 
 foreign-refusal-requires : tie.Need-foreign-refusal-requires
 foreign-refusal-requires c κs = search needs
