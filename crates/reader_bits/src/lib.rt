@@ -17,5 +17,5 @@ pub fn counts_as_tail(setting: u8, window: u64) -> bool
     if setting == 0 {
         return window == TAIL;
     }
-    set_bits::ones(TAIL ^ window) <= setting as usize
+    word_ones::ones(TAIL ^ window) <= setting as usize
 }

@@ -1,16 +1,14 @@
-// The scrambling bits, and bits put on the wire and made plain again: one rule for one bit serves the reader and the writer.
+// The scrambling bits, and a bit put on the wire and made plain again: one rule for one bit serves the reader and the writer. A run of
+// bits is in `wire_bits`.
 //
 // The contracts cite `specs/Register.antt` (the register and its bits), `specs/Step.antt` (what a step answers and leaves) and
 // `specs/Wire.antt` (complementing and scrambling); `specs/Sync.antt` says what SYNC and the tail are. The two steps ask nothing
 // of their caller; the other functions are inner, and say so.
 ghost use mathlib.Core.Path.{_≡_};
-ghost use mathlib.Core.List.{_++_};
-ghost use Prim.Native.Nat.{_+_, _*_, _%_, _^_, _≤_, _<_};
-ghost use lib.ListN.{length, take, drop};
-ghost use Rattle.bits.specs.Bits.{bitsOf, part};
-ghost use Rattle.scramble.specs.Register.{newBit, nextRegister, registerAfter};
+ghost use Prim.Native.Nat.{_%_, _<_};
+ghost use Rattle.scramble.specs.Register.{newBit, nextRegister};
 ghost use Rattle.scramble.specs.Step.{StepOk, registerLeft};
-ghost use Rattle.scramble.specs.Wire.{plainBit, wireOf};
+ghost use Rattle.scramble.specs.Wire.{plainBit};
 
 // The last fifteen scrambling bits, the newest lowest.
 pub struct Register {
@@ -103,24 +101,4 @@ pub fn mix_bit(place: usize, r: Register, bit: u8) -> Shifted
         next: next,
         bit: (bit ^ t.bit) ^ group,
     }
-}
-
-// Inner. Count bits of s from a place on, put on the wire or made plain: one exclusive or serves both ways. Place is
-// the number of the first of them, counted from the first information bit, and r the register before it; the register
-// after them comes back.
-pub fn mix(s: &mut [u8], from: usize, count: usize, place: usize, r: Register) -> Register
-    requires { ⌜ (from + count ≤ 8 * length (now s)) × (from + count < 2 ^ 64) × (place + count < 2 ^ 64) ⌝ }
-    ensures { λ o. ⌜ (bitsOf (now (s .exit)) ≡ take from (bitsOf (now (s .entry))) ++ wireOf place (r .bits) (part (now (s .entry)) from count) ++ drop (from + count) (bitsOf (now (s .entry)))) × (o .bits ≡ registerAfter count (r .bits)) ⌝ }
-{
-    let mut reg = r;
-    let mut i: usize = 0;
-    while i < count {
-        let b = slices::bit_at(s, from + i);
-        let t = mix_bit(place + i, reg, b);
-        slice_writer::put_bit(s, from + i, t.bit);
-        let next = t.next;
-        reg = next;
-        i += 1;
-    }
-    reg
 }

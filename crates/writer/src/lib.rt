@@ -35,7 +35,7 @@ fn put_line(f: Format, line: &[u8], out: &mut [u8])
     let start = Register {
         bits: scramble::FIFTEEN_ONES,
     };
-    scramble::mix(out, sync_bits, Format::INFORMATION_BITS + dummy, 0, start);
+    wire_bits::mix(out, sync_bits, Format::INFORMATION_BITS + dummy, 0, start);
 }
 
 // One plain line, the first 44,356 bytes of line, put on the wire at the front of out: 45,606 bytes in format 1 and 49,500

@@ -1,11 +1,11 @@
--- `set_bits::paired` meets its contract: both sides are bounded by the mask, so their sum fits. Assumes nothing.
+-- `word_ones::paired` meets its contract: both sides are bounded by the mask, so their sum fits. Assumes nothing.
 use mathlib.Core.Path.{refl}
 use Prim.Native.Nat.{_/_, _^_}
 use native.Mathlib.Omega.{arith}
 use borrow.Author.Needs.{needs}
 use lib.Bits.{and-le-r}
-use Rattle.set_bits.proofs.paired.Statement.{statement}
-use Rattle.set_bits.proofs.paired.Tie as tie
+use Rattle.word_ones.proofs.paired.Statement.{statement}
+use Rattle.word_ones.proofs.paired.Tie as tie
 
 shr-result : tie.Need-shr-result
 shr-result c = search needs

@@ -1,4 +1,4 @@
--- `set_bits::ones` meets its contract: it is the parallel count at the width 2 ^ 6. Assumes nothing.
+-- `word_ones::ones` meets its contract: it is the parallel count at the width 2 ^ 6. Assumes nothing.
 use mathlib.Core.Path.{_≡_, ap, _∙_}
 use Prim.Native.Nat.{ℕ}
 use native.Mathlib.Omega.{arith}
@@ -8,8 +8,8 @@ use Rattle.bits.specs.Parallel.{evens, paired, parallel}
 use Rattle.bits.proofs.Digits.{length-digits, digits-below}
 use Rattle.bits.proofs.Counts.{set-le}
 use Rattle.bits.proofs.Parallel.{parallel-count}
-use Rattle.set_bits.proofs.ones.Statement.{statement}
-use Rattle.set_bits.proofs.ones.Tie as tie
+use Rattle.word_ones.proofs.ones.Statement.{statement}
+use Rattle.word_ones.proofs.ones.Tie as tie
 
 paired-requires : tie.Need-paired-requires
 paired-requires c κs = search needs

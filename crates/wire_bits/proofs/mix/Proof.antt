@@ -1,4 +1,4 @@
--- `scramble::mix` meets its contract: what is to stand in the part is known before the loop, and each turn puts one bit
+-- `wire_bits::mix` meets its contract: what is to stand in the part is known before the loop, and each turn puts one bit
 -- of it. Assumes nothing.
 use mathlib.Core.Path.{_≡_, ap, _∙_}
 use Prim.Native.Nat.{ℕ, _+_, _-_, _*_, _≤_, _<_}
@@ -10,12 +10,13 @@ use lib.Seq.{paste, paste-zero}
 use Rattle.bits.specs.Bits.{bitsOf}
 use Rattle.bits.proofs.Bytes.{length-bits}
 use Rattle.bits.proofs.Writes.{paste-turn, paste-next, paste-done}
 use Rattle.scramble.specs.Register.{registerAfter}
 use Rattle.scramble.specs.Wire.{plainBit}
 use Rattle.scramble.proofs.Wire.{plain-lt}
-use Rattle.scramble.proofs.Turn.{register-turn, target, target-is, target-length, target-at}
-use Rattle.scramble.proofs.mix.Statement.{statement}
-use Rattle.scramble.proofs.mix.Tie as tie
+use Rattle.scramble.proofs.Turn.{register-turn}
+use Rattle.wire_bits.proofs.Target.{target, target-is, target-length, target-at}
+use Rattle.wire_bits.proofs.mix.Statement.{statement}
+use Rattle.wire_bits.proofs.mix.Tie as tie
 
 abbrev Inv-loop : tie.InvT-loop
 Inv-loop s₀ from count place reg₀ i₀ s reg i =
