@@ -1,6 +1,6 @@
 // Runs of lines through an assembly: there is no code here. `specs/Runs.antt` says what a run is, one call of `add_segment`
 // after the other, and what a finished block of one revision is; `specs/Before.antt` what `add_segment` was before revisions were
-// compared. `proofs/` has what holds of runs, over the definitions of `blocks`, `revisions` and `segments`:
+// compared. `proofs/` has what holds of runs, over the definitions of `blocks`, `revisions`, `copies` and `segments`:
 //
 //   Marking   a mark set is set and no other changes; all 25 are marked exactly when the number says so
 //   Stored    a segment stored stands in its place, and nothing else changes

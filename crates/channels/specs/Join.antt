@@ -5,8 +5,8 @@ use lib.ListN.{length, drop}
 use Rattle.refusals.specs.Refusals.{first, kept}
 use Rattle.formats.specs.Formats.{checkStart}
 use Rattle.bits.specs.Bits.{bitsOf}
-use Rattle.sectors.specs.Layout.{upperOf, lowerOf}
-use Rattle.sectors.specs.Asked.{lineRefusal}
+use Rattle.sector_table.specs.Layout.{upperOf, lowerOf}
+use Rattle.sector_table.specs.Asked.{lineRefusal}
 use Rattle.sectors.specs.Sector.{answerOf, pixelsOf, joinedOf}
 use Rattle.pixels.specs.Calls.{valuesRefusal}
 

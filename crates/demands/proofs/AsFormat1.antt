@@ -3,7 +3,7 @@ use mathlib.Core.Path.{refl}
 use Rattle.refusals.specs.Refusals.{when}
 use Rattle.formats.specs.Formats.{unknown, formatRefusal, namedBy}
 use Rattle.sync.specs.Put.{putSyncRefusal, putSyncAnswer, putSyncLeft}
-use Rattle.sectors.specs.Asked.{askedOf, lineRefusal}
+use Rattle.sector_table.specs.Asked.{askedOf, lineRefusal}
 use Rattle.sectors.specs.Calls.{fillerRefusal, fillerAnswer}
 use Rattle.reader.specs.Read.{readAnswer, readLeft}
 use Rattle.reader_refusals.specs.Refusing.{readRefusal}

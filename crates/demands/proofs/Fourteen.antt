@@ -12,7 +12,7 @@ use Rattle.refusals.proofs.Words.{kept-none}
 use Rattle.bits.specs.Bits.{stretch}
 use Rattle.numbers.specs.declared.Integer.{Integer}
 use Rattle.numbers.specs.Integers.{integerNumber, integerValue}
-use Rattle.document.specs.Place.{docPart, docFrom}
+use Rattle.sector_table.specs.Place.{docPart, docFrom}
 use Rattle.document_fields.specs.Fields.{IntegerFieldOk}
 use Rattle.blocks.specs.declared.assembly.Assembly.{Assembly}
 use Rattle.blocks.specs.Record.{revisionOf}

@@ -11,9 +11,9 @@ use Rattle.bits.specs.Bits.{bitsOf, setBits, stretch}
 use Rattle.bits.proofs.Bytes.{length-bits, bits-take}
 use Rattle.formats.specs.Formats.{informationBits, lineBytes}
 use Rattle.cuts.specs.Driven.{lineIn}
-use Rattle.sectors.specs.declared.layout.Layout.{Layout}
-use Rattle.sectors.specs.Layout.{layoutOf, Sound, dataAt, fillerAt, coveredBits, fillerBits}
-use Rattle.sectors.proofs.Table.{sound}
+use Rattle.sector_table.specs.declared.layout.Layout.{Layout}
+use Rattle.sector_table.specs.Layout.{layoutOf, Sound, dataAt, fillerAt, coveredBits, fillerBits}
+use Rattle.sector_table.proofs.Table.{sound}
 use Rattle.sector_rounds.proofs.Others.{Alike}
 use Rattle.sectors.specs.Sector.{coveredOf, idOf, answerOf, fillerOf, dataBitsOf, dataOf, pixelsOf, joinedOf}
 

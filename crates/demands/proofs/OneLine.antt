@@ -16,13 +16,13 @@ use Rattle.reader_refusals.specs.Refusing.{largestSetting}
 use Rattle.cuts.specs.Driven.{lineIn, Moment, Standing}
 use Rattle.cuts.proofs.Moments.{of-the-bytes}
 use Rattle.cuts.proofs.Standing.{line-stands}
-use Rattle.sectors.specs.declared.layout.Layout.{Layout}
-use Rattle.sectors.specs.Layout.{sectors, layoutOf, upperOf, lowerOf}
-use Rattle.sectors.specs.Asked.{lineRefusal}
+use Rattle.sector_table.specs.declared.layout.Layout.{Layout}
+use Rattle.sector_table.specs.Layout.{sectors, layoutOf, upperOf, lowerOf}
+use Rattle.sector_table.specs.Asked.{lineRefusal}
 use Rattle.sectors.specs.Sector.{pixelsOf, joinedPixel, joinedOf}
-use Rattle.sectors.proofs.Admitted.{admitted}
-use Rattle.sectors.proofs.Rows.{Each, among}
-use Rattle.sectors.proofs.Table.{sound}
+use Rattle.sector_table.proofs.Admitted.{admitted}
+use Rattle.sector_table.proofs.Rows.{Each, among}
+use Rattle.sector_table.proofs.Table.{sound}
 use Rattle.channels.specs.Join.{joinedAnswer, joinedLeft}
 use Rattle.sectors.proofs.Pairs.{as-many, length-joined}
 use Rattle.refusals.proofs.Words.{kept-none, none-first}

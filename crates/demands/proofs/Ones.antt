@@ -18,12 +18,12 @@ use Rattle.bits.proofs.Zeros.{packed-zeros}
 use Rattle.crc.specs.Division.{IsRemainder}
 use Rattle.crc.specs.Remainder.{remainderOf, inverted}
 use Rattle.crc.proofs.Inverted.{remainder-ones}
-use Rattle.sectors.specs.Asked.{askedOf, lineRefusal}
-use Rattle.sectors.specs.declared.layout.Layout.{Layout}
-use Rattle.sectors.specs.Layout.{sectors, layoutOf, dataAt, coveredBits, checkBits, fillerBits}
+use Rattle.sector_table.specs.Asked.{askedOf, lineRefusal}
+use Rattle.sector_table.specs.declared.layout.Layout.{Layout}
+use Rattle.sector_table.specs.Layout.{sectors, layoutOf, dataAt, coveredBits, checkBits, fillerBits}
 use Rattle.sectors.specs.Sector.{coveredOf, answerOf}
 use Rattle.sectors.specs.Calls.{acceptedAnswer}
-use Rattle.sectors.proofs.Admitted.{admits}
+use Rattle.sector_table.proofs.Admitted.{admits}
 use Rattle.sector_frame.specs.Written.{headOf, sectorOf, sectorWritten, dataWritten}
 use Rattle.sector_writer.specs.Calls.{inputShort, putDataAnswer, putDataLeft}
 use Rattle.sector_rounds.proofs.Ones.{ones-3, ones-4, ones-5, ones-refused}

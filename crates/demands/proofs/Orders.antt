@@ -18,9 +18,9 @@ use Rattle.scramble.specs.Step.{stepRefusal}
 use Rattle.sync.specs.Put.{putSyncRefusal}
 use Rattle.reader_refusals.specs.Refusing.{readRefusal}
 use Rattle.writer.specs.Wire.{writeLineRefusal}
-use Rattle.sectors.specs.Layout.{layoutOf}
+use Rattle.sector_table.specs.Layout.{layoutOf}
 use Rattle.sectors.specs.Sector.{answerOf}
-use Rattle.sectors.specs.Asked.{askedOf, lineRefusal}
+use Rattle.sector_table.specs.Asked.{askedOf, lineRefusal}
 use Rattle.sectors.specs.Calls.{acceptedAnswer, answersRefusal, fillerRefusal}
 use Rattle.pixels.specs.Calls.{valuesRefusal, dataAnswer, pixelsAnswer}
 use Rattle.channels.specs.Join.{joinedAnswer}
@@ -36,7 +36,8 @@ use Rattle.numbers.specs.declared.Bcd.the-variants as bcd
 use Rattle.number_writer.specs.Written.{putRealRefusal}
 use Rattle.stamps.specs.Decimals.{partNumber, partRefusal}
 use Rattle.stamps.proofs.Digits.{bcd-digits}
-use Rattle.document.specs.Place.{docByte, docFrom, docPart, docRefusal}
+use Rattle.document.specs.Place.{docRefusal}
+use Rattle.sector_table.specs.Place.{docByte, docFrom, docPart}
 use Rattle.document.specs.Segments.{segmentRefusal, subCommutationRefusal}
 use Rattle.document.proofs.Known.{doc-long}
 use Rattle.document.proofs.Numbers.{doc-order}

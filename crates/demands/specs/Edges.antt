@@ -18,7 +18,7 @@ use Rattle.scramble.specs.Register.{scramblingBits}
 use Rattle.scramble.specs.Sync.{fifteenOnes}
 use Rattle.wire.specs.Parts.{informationOf}
 use Rattle.formats.specs.Formats.{checkStart}
-use Rattle.sectors.specs.Layout.{layoutOf}
+use Rattle.sector_table.specs.Layout.{layoutOf}
 use Rattle.sectors.specs.Sector.{answerOf, joinedOf}
 use Rattle.sector_frame.specs.Written.{headOf}
 

@@ -5,7 +5,7 @@ use Prim.Native.Nat.{ℕ, _<_}
 use lib.ListN.{length, getD}
 use Rattle.cuts.specs.Driven.{lineIn}
 use Rattle.sectors.specs.Sector.{pixelsOf, joinedPixel}
-use Rattle.sectors.specs.Layout.{upperOf, lowerOf}
+use Rattle.sector_table.specs.Layout.{upperOf, lowerOf}
 use Rattle.channels.specs.Join.{joinedAnswer, joinedLeft}
 
 -- the line in the buffer is the last of these, and each IR1-3 pixel joined from the buffer is four times the upper part plus the

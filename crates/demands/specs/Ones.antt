@@ -12,7 +12,7 @@ use Rattle.crc.specs.Remainder.{remainderOf, inverted}
 use Rattle.formats.specs.Formats.{svissr, hirid, svissrOnes, formatOf, checkStart, lineBytes}
 use Rattle.formats.specs.declared.FormatAnswer.{FormatAnswer}
 use Rattle.formats.specs.declared.FormatAnswer.the-variants.{Is, Refused}
-use Rattle.sectors.specs.Layout.{layoutOf, dataAt}
+use Rattle.sector_table.specs.Layout.{layoutOf, dataAt}
 use Rattle.sectors.specs.Sector.{coveredOf, answerOf}
 use Rattle.sectors.specs.Calls.{acceptedAnswer, answersAnswer, fillerAnswer}
 use Rattle.sector_writer.specs.Calls.{putDataAnswer, putDataLeft}

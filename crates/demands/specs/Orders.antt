@@ -18,8 +18,8 @@ use Rattle.reader_record.specs.Records.{possibleOf}
 use Rattle.reader_record.specs.declared.State.{State}
 use Rattle.reader_refusals.specs.Refusing.{largestSetting, readRefusal}
 use Rattle.writer.specs.Wire.{writeLineRefusal}
-use Rattle.sectors.specs.declared.layout.Layout.{Layout}
-use Rattle.sectors.specs.Layout.{layoutOf, upperOf, lowerOf, bytesOf}
+use Rattle.sector_table.specs.declared.layout.Layout.{Layout}
+use Rattle.sector_table.specs.Layout.{layoutOf, upperOf, lowerOf, bytesOf}
 use Rattle.sectors.specs.Sector.{coveredOf, idOf}
 use Rattle.sectors.specs.Calls.{acceptedAnswer, answersRefusal, fillerRefusal}
 use Rattle.pixels.specs.Calls.{dataAnswer, pixelsAnswer}
@@ -33,7 +33,8 @@ use Rattle.numbers.specs.Integers.{readIntegerRefusal}
 use Rattle.numbers.specs.Decimals.{someOver9, digitsIn, readBcdRefusal}
 use Rattle.numbers.specs.Reals.{noReal, magnitudeBits, readRealRefusal}
 use Rattle.number_writer.specs.Written.{putRealRefusal}
-use Rattle.document.specs.Place.{docByte, docFrom, docPart, docRefusal}
+use Rattle.document.specs.Place.{docRefusal}
+use Rattle.sector_table.specs.Place.{docByte, docFrom, docPart}
 use Rattle.document.specs.Segments.{subCommutationRefusal}
 use Rattle.document_stamps.specs.Lines.{lineNumbersRefusal}
 use Rattle.document_stamps.specs.Dates.{dateRefusal}

@@ -9,12 +9,13 @@ use lib.Seq.{take-all}
 use Rattle.refusals.proofs.Words.{none-first}
 use Rattle.formats.specs.Formats.{lineBytes, checkStart}
 use Rattle.bits.specs.Bits.{bitsOf}
-use Rattle.sectors.specs.Asked.{lineRefusal}
-use Rattle.sectors.specs.Layout.{layoutOf}
+use Rattle.sector_table.specs.Asked.{lineRefusal}
+use Rattle.sector_table.specs.Layout.{layoutOf}
 use Rattle.sectors.specs.Sector.{answerOf}
 use Rattle.sectors.specs.Calls.{acceptedAnswer}
-use Rattle.sectors.proofs.Admitted.{admitted}
-use Rattle.document.specs.Place.{docFrom, docRefusal}
+use Rattle.sector_table.proofs.Admitted.{admitted}
+use Rattle.document.specs.Place.{docRefusal}
+use Rattle.sector_table.specs.Place.{docFrom}
 
 pub doc-long : (f : ℕ) (line : List ℕ) → docRefusal f line ≡ 0 → lineBytes ≤ length line
 unfolding docRefusal acceptedAnswer

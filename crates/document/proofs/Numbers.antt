@@ -7,8 +7,8 @@ use Rattle.refusals.specs.Refusals.{first, when, shortOf, outside, outsideOf}
 use Rattle.refusals.proofs.Chains.{first-assoc, first-zero}
 use Rattle.formats.specs.Formats.{lineBytes, formatRefusal, checkStart}
 use Rattle.bits.specs.Bits.{bitsOf}
-use Rattle.sectors.specs.Asked.{askedOf, lineRefusal}
-use Rattle.sectors.specs.Layout.{layoutOf}
+use Rattle.sector_table.specs.Asked.{askedOf, lineRefusal}
+use Rattle.sector_table.specs.Layout.{layoutOf}
 use Rattle.sectors.specs.Sector.{answerOf}
 use Rattle.sectors.specs.Calls.{acceptedAnswer}
 use Rattle.document.specs.Place.{docRefusal}

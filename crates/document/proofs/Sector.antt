@@ -11,9 +11,9 @@ use Rattle.bits.specs.Bits.{bitsOf, stretch, fieldsOf, Below, part}
 use Rattle.bits.proofs.Below.{below-take, below-drop}
 use Rattle.bits.proofs.Bytes.{part-bytes}
 use Rattle.bits.proofs.Fields.{fields-packed}
-use Rattle.sectors.specs.Layout.{sectors, layoutOf}
+use Rattle.sector_table.specs.Layout.{sectors, layoutOf}
 use Rattle.sectors.specs.Sector.{dataBitsOf, dataOf}
-use Rattle.document.specs.Place.{docByte, docFrom}
+use Rattle.sector_table.specs.Place.{docByte, docFrom}
 
 pub doc-data : (line : List ℕ) → Below 256 line → lineBytes ≤ length line → dataOf (layoutOf 1) (bitsOf line) ≡ take 2291 (docFrom line 3)
 unfolding dataOf dataBitsOf part stretch layoutOf sectors docFrom bitsOf

@@ -17,7 +17,8 @@ use Rattle.document.specs.declared.modes.Scanner.{Scanner}
 use Rattle.document.specs.declared.modes.Scanner.the-variants as scanner
 use Rattle.document.specs.declared.segments.SubCommutation.{SubCommutation}
 use Rattle.document.specs.declared.segments.SubCommutation.the-variants as sub
-use Rattle.document.specs.Place.{docByte, docRefusal}
+use Rattle.document.specs.Place.{docRefusal}
+use Rattle.sector_table.specs.Place.{docByte}
 use Rattle.document.specs.Modes.{modeName, modeByte, modeOf, scanNumber, scanned, ScanModeOk, scanModeAnswer, mirrorName, mirrorByte, mirrorOf, scannerNumber, selected, ScannerSelectOk, scannerSelectAnswer}
 use Rattle.document.specs.Segments.{subNumber, subValues, SubCommutationOk, subCommutationAnswer}
 use Rattle.document.proofs.Named.{mode-byte, mirror-byte}

@@ -14,7 +14,8 @@ use Rattle.document.specs.declared.modes.Mirror.{Mirror}
 use Rattle.document.specs.declared.modes.Mirror.the-variants as mirror
 use Rattle.document.specs.declared.modes.Scanner.{Scanner}
 use Rattle.document.specs.declared.modes.Scanner.the-variants as scanner
-use Rattle.document.specs.Place.{docByte, docRefusal}
+use Rattle.document.specs.Place.{docRefusal}
+use Rattle.sector_table.specs.Place.{docByte}
 
 -- ---- scan mode
 

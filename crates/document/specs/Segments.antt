@@ -7,7 +7,8 @@ use lib.Dec.{eqb, ltb}
 use Rattle.refusals.specs.Refusals.{first, when, answered, kept, Genuine}
 use Rattle.document.specs.declared.segments.SubCommutation.{SubCommutation}
 use Rattle.document.specs.declared.segments.SubCommutation.the-variants.{Is, Refused}
-use Rattle.document.specs.Place.{docByte, docRefusal}
+use Rattle.document.specs.Place.{docRefusal}
+use Rattle.sector_table.specs.Place.{docByte}
 
 -- the paper's number and values for each answer
 abbrev pub subNumber : SubCommutation → ℕ

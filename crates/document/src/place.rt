@@ -3,7 +3,8 @@ ghost use mathlib.Core.Path.{_≡_};
 ghost use Prim.Native.Nat.{_≤_};
 ghost use lib.ListN.{length};
 ghost use Rattle.formats.specs.Formats.{lineBytes};
-ghost use Rattle.document.specs.Place.{docBytes, docByte, docRefusal};
+ghost use Rattle.document.specs.Place.{docRefusal};
+ghost use Rattle.sector_table.specs.Place.{docBytes, docByte};
 use sectors::check::accepted;
 
 // ID and data of the documentation sector end here.

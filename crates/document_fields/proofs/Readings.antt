@@ -15,7 +15,7 @@ use Rattle.numbers.specs.Integers.{readIntegerRefusal, ReadIntegerOk}
 use Rattle.numbers.specs.Decimals.{digitsIn, readBcdRefusal, ReadBcdOk}
 use Rattle.numbers.specs.Reals.{formRefusal, realIn, readRealRefusal, ReadRealOk}
 use Rattle.numbers.proofs.Settled.{integers, decimals, reals}
-use Rattle.document.specs.Place.{docFrom}
+use Rattle.sector_table.specs.Place.{docFrom}
 use Rattle.document_fields.specs.Fields.{fieldRefusal, integerFieldRefusal, IntegerFieldOk, bcdFieldRefusal, BcdFieldOk, realFieldRefusal, RealFieldOk}
 use Rattle.document_fields.proofs.Served.{there}
 

@@ -10,7 +10,8 @@ use borrow.Author.Tests.{ltb-false, le-ltb}
 use Rattle.refusals.specs.Refusals.{first, when, shortOf}
 use Rattle.refusals.proofs.Words.{none-first, none-second, none-when, when-false, or-false}
 use Rattle.formats.specs.Formats.{lineBytes, formatRefusal}
-use Rattle.document.specs.Place.{docBytes, docFrom, docRefusal}
+use Rattle.document.specs.Place.{docRefusal}
+use Rattle.sector_table.specs.Place.{docBytes, docFrom}
 use Rattle.document.proofs.Known.{doc-long}
 use Rattle.document_fields.specs.Fields.{noPlace, fieldRefusal}
 

@@ -21,7 +21,8 @@ use Rattle.numbers.specs.Integers.{integerNumber, integerValue}
 use Rattle.numbers.specs.Decimals.{bcdNumber, bcdValue, someOver9, digitsIn}
 use Rattle.numbers.specs.Reals.{zeroReal, realNumber, realValue, formRefusal, realIn}
 use Rattle.numbers.specs.Floats.{zeroFloat, floatNumber, floatValue, valueOf}
-use Rattle.document.specs.Place.{docBytes, docFrom, docRefusal}
+use Rattle.document.specs.Place.{docRefusal}
+use Rattle.sector_table.specs.Place.{docBytes, docFrom}
 
 -- the n bytes from place p on do not all lie in the bytes 1 to 2,293
 unfoldable pub noPlace : ℕ → ℕ → Bool

@@ -6,7 +6,8 @@ use Prim.Native.Nat.{ℕ}
 use lib.IntN.{pos, negsuc}
 use Rattle.refusals.proofs.Words.{first-none}
 use Rattle.stamps.specs.Dates.{dateInRefusal}
-use Rattle.document.specs.Place.{docPart, docRefusal}
+use Rattle.document.specs.Place.{docRefusal}
+use Rattle.sector_table.specs.Place.{docPart}
 use Rattle.document_stamps.specs.Lines.{positionOf, countsRefusal, numberedNumber, lineNumbersRefusal, LineNumbersOk}
 use Rattle.document_stamps.specs.Dates.{datedNumber, dateRefusal, DateOk}
 use Rattle.document_stamps.specs.declared.lines.Numbered.{Numbered}

@@ -12,7 +12,7 @@ use Rattle.bits.proofs.Below.{below-append, below-take, below-drop}
 use Rattle.bits.proofs.Stretches.{stretch-length}
 use Rattle.stamps.specs.Dates.{dateIn}
 use Rattle.stamps.proofs.Order.{Stamp}
-use Rattle.document.specs.Place.{docPart}
+use Rattle.sector_table.specs.Place.{docPart}
 use Rattle.document_stamps.specs.Stamps.{stampOf}
 
 -- two copies into the front of a slice, one behind the other

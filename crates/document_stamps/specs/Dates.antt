@@ -5,7 +5,8 @@ use mathlib.Core.Path.{_≡_}
 use Rattle.refusals.specs.Refusals.{first, answered, kept, Genuine}
 use Rattle.stamps.specs.declared.dates.DateTime.{DateTime}
 use Rattle.stamps.specs.Dates.{dateInRefusal, dateIn}
-use Rattle.document.specs.Place.{docPart, docRefusal}
+use Rattle.document.specs.Place.{docRefusal}
+use Rattle.sector_table.specs.Place.{docPart}
 use Rattle.document_stamps.specs.declared.dates.Dated.{Dated}
 use Rattle.document_stamps.specs.declared.dates.Dated.the-variants.{Is, Refused}
 

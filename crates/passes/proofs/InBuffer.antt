@@ -9,7 +9,7 @@ use lib.ListN.{length}
 use borrow.Author.Tests.{eqb-false}
 use Rattle.formats.specs.Formats.{lineBytes, checkStart}
 use Rattle.bits.specs.Bits.{bitsOf}
-use Rattle.sectors.specs.Layout.{layoutOf}
+use Rattle.sector_table.specs.Layout.{layoutOf}
 use Rattle.sectors.specs.Sector.{answerOf, pixelsOf}
 use Rattle.sector_rounds.proofs.Others.{Alike}
 use Rattle.cuts.specs.Driven.{lineIn}

@@ -10,7 +10,7 @@ use lib.ListN.{length, length-append}
 use Rattle.bits.specs.Bits.{inARow}
 use Rattle.refusals.specs.Refusals.{when}
 use Rattle.formats.specs.Formats.{checkStart}
-use Rattle.sectors.specs.Layout.{layoutOf}
+use Rattle.sector_table.specs.Layout.{layoutOf}
 use Rattle.sectors.specs.Sector.{answerOf, fillerOf}
 use Rattle.report_record.specs.declared.Tally.{Tally}
 use Rattle.report_record.specs.declared.Channel.{Channel}

@@ -8,11 +8,11 @@ use Rattle.refusals.specs.Refusals.{first, shortOf}
 use Rattle.refusals.proofs.Words.{first-none, none-first, none-second, enough}
 use Rattle.formats.specs.Formats.{lineBytes, checkStart}
 use Rattle.bits.specs.Bits.{bitsOf}
-use Rattle.sectors.specs.declared.layout.Layout.{Layout}
-use Rattle.sectors.specs.Layout.{layoutOf, bytesOf, Sound}
-use Rattle.sectors.specs.Asked.{lineRefusal}
+use Rattle.sector_table.specs.declared.layout.Layout.{Layout}
+use Rattle.sector_table.specs.Layout.{layoutOf, bytesOf, Sound}
+use Rattle.sector_table.specs.Asked.{lineRefusal}
 use Rattle.sectors.specs.Sector.{answerOf}
-use Rattle.sectors.proofs.Admitted.{Admitted, admitted}
+use Rattle.sector_table.proofs.Admitted.{Admitted, admitted}
 use Rattle.pixels.specs.Calls.{valuesRefusal, dataAnswer, pixelsAnswer}
 
 pub record Readable (lo hi n len : ℕ) (start : ℕ) (l : Layout) (b : List ℕ) (given needed : ℕ) : Type 0 where

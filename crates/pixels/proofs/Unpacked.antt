@@ -15,10 +15,10 @@ use Rattle.bits.proofs.Through.{number-append}
 use Rattle.bits.proofs.Writes.{grow}
 use Rattle.bits.proofs.Fields.{fields-more, length-fields, fields-append}
 use Rattle.bits.proofs.Zeros.{number-zeros}
-use Rattle.sectors.specs.declared.layout.Layout.{Layout}
-use Rattle.sectors.specs.Layout.{dataAt, bytesOf, spareOf, Sound}
+use Rattle.sector_table.specs.declared.layout.Layout.{Layout}
+use Rattle.sector_table.specs.Layout.{dataAt, bytesOf, spareOf, Sound}
 use Rattle.sectors.specs.Sector.{dataBitsOf, dataOf, pixelsOf}
-use Rattle.sectors.proofs.Bounds.{ends}
+use Rattle.sector_table.proofs.Bounds.{ends}
 
 -- the bits from the data on are the data bits, and then others
 module _ (l : Layout) (b : List ℕ) (s : Sound l) (long : l .start + l .bits ≤ length b) where

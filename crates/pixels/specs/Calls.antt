@@ -6,9 +6,9 @@ use lib.ListN.{length, drop}
 use Rattle.refusals.specs.Refusals.{first, kept, shortOf}
 use Rattle.formats.specs.Formats.{checkStart}
 use Rattle.bits.specs.Bits.{bitsOf}
-use Rattle.sectors.specs.declared.layout.Layout.{Layout}
-use Rattle.sectors.specs.Layout.{layoutOf, bytesOf}
-use Rattle.sectors.specs.Asked.{lineRefusal}
+use Rattle.sector_table.specs.declared.layout.Layout.{Layout}
+use Rattle.sector_table.specs.Layout.{layoutOf, bytesOf}
+use Rattle.sector_table.specs.Asked.{lineRefusal}
 use Rattle.sectors.specs.Sector.{answerOf, dataOf, pixelsOf}
 
 -- 3, 5, 6

@@ -15,9 +15,9 @@ use Rattle.bits.proofs.Counts.{set-le}
 use Rattle.bits.proofs.Below.{below-take, below-drop, below-append}
 use Rattle.bits.proofs.Fields.{length-fields}
 use Rattle.crc.specs.Remainder.{remainderOf}
-use Rattle.sectors.specs.declared.layout.Layout.{Layout}
+use Rattle.sector_table.specs.declared.layout.Layout.{Layout}
 use Rattle.refusals.specs.Refusals.{first, when}
-use Rattle.sectors.specs.Layout.{layoutOf, upperOf, lowerOf, dataAt, fillerAt, fillerBits}
+use Rattle.sector_table.specs.Layout.{layoutOf, upperOf, lowerOf, dataAt, fillerAt, fillerBits}
 use Rattle.sectors.specs.Sector.{coveredOf, idOf, answerOf, fillerOf, dataBitsOf, pixelsOf, joinedOf}
 use Rattle.report_record.specs.declared.Report.{Report}
 use Rattle.report_record.specs.declared.Channel.{Channel}

@@ -11,11 +11,11 @@ use lib.ListN.{length, getD, drop}
 use Rattle.refusals.specs.Refusals.{first, when}
 use Rattle.formats.specs.Formats.{lineBytes}
 use Rattle.bits.specs.Bits.{bitsOf, fieldsOf}
-use Rattle.sectors.specs.declared.layout.Layout.{Layout}
-use Rattle.sectors.specs.Layout.{sectors, layoutOf, upperOf, lowerOf, dataAt, Sound}
+use Rattle.sector_table.specs.declared.layout.Layout.{Layout}
+use Rattle.sector_table.specs.Layout.{sectors, layoutOf, upperOf, lowerOf, dataAt, Sound}
 use Rattle.sectors.specs.Sector.{coveredOf, idOf, answerOf, fillerOf, pixelsOf, joinedOf}
-use Rattle.sectors.proofs.Table.{sound}
-use Rattle.sectors.proofs.Rows.{Each, among}
+use Rattle.sector_table.proofs.Table.{sound}
+use Rattle.sector_table.proofs.Rows.{Each, among}
 use Rattle.crc.specs.Remainder.{remainderOf}
 use Rattle.pixels.proofs.Unpacked.{pixels-here}
 use Rattle.sectors.proofs.Pairs.{upper-wide, lower-wide}

@@ -5,7 +5,7 @@ use mathlib.Core.List.{List}
 use lib.Dec.{eqb}
 use Rattle.refusals.specs.Refusals.{when}
 use Rattle.bits.specs.Bits.{inBase}
-use Rattle.document.specs.Place.{docPart}
+use Rattle.sector_table.specs.Place.{docPart}
 use Rattle.blocks.specs.declared.assembly.Revisions.{Revisions}
 use Rattle.blocks.specs.declared.assembly.Assembly.{Assembly}
 use Rattle.blocks.specs.Record.{started, revisionOf}

@@ -1,8 +1,8 @@
 // The revisions of the operator's tables: which one a line carries, whether it is foreign to an assembly, and which one the
 // assembly remembers from then on.
 //
-// The contracts cite `specs/Carried.antt`, over the record of an assembly in `blocks`. All functions here are inner: `segments`
-// asks them once a line carries a segment.
+// The contracts cite `specs/Carried.antt`, over the record of an assembly in `blocks`. All functions here are inner: `copies`
+// and `segments` ask them once a line carries a segment.
 ghost use mathlib.Core.Path.{_≡_};
 ghost use Prim.Native.Nat.{_≤_};
 ghost use lib.ListN.{length};

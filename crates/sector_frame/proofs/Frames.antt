@@ -13,10 +13,10 @@ use Rattle.bits.proofs.Bytes.{length-bits, bits-take, bits-drop, bits-cons}
 use Rattle.bits.proofs.Packed.{length-packed}
 use Rattle.bits.proofs.Stretches.{stretch-length}
 use Rattle.crc.specs.Remainder.{checkWordOf}
-use Rattle.sectors.specs.declared.layout.Layout.{Layout}
-use Rattle.sectors.specs.Layout.{dataAt, checkAt, fillerAt, checkBits, fillerBits, bytesOf, Sound}
+use Rattle.sector_table.specs.declared.layout.Layout.{Layout}
+use Rattle.sector_table.specs.Layout.{dataAt, checkAt, fillerAt, checkBits, fillerBits, bytesOf, Sound}
 use Rattle.sectors.specs.Sector.{dataBitsOf}
-use Rattle.sectors.proofs.Bounds.{ends}
+use Rattle.sector_table.proofs.Bounds.{ends}
 use Rattle.sector_frame.specs.Written.{headOf, sectorOf, sectorWritten, dataWritten, pixelsWritten}
 use Rattle.bits.proofs.Stretches.{swap, piece, cut}
 

@@ -7,8 +7,8 @@ use lib.ListN.{take, drop, replicate}
 use Rattle.refusals.specs.Refusals.{first, when}
 use Rattle.bits.specs.Bits.{digits, packedOf, bitsOf}
 use Rattle.crc.specs.Remainder.{checkWordOf}
-use Rattle.sectors.specs.declared.layout.Layout.{Layout}
-use Rattle.sectors.specs.Layout.{checkBits, fillerBits}
+use Rattle.sector_table.specs.declared.layout.Layout.{Layout}
+use Rattle.sector_table.specs.Layout.{checkBits, fillerBits}
 
 -- the ID, and the data behind it
 unfoldable pub headOf : Layout → List ℕ → List ℕ

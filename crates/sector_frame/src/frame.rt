@@ -5,12 +5,12 @@ ghost use Prim.Native.Nat.{_+_, _*_, _^_, _≤_, _<_};
 ghost use lib.ListN.{length, take, drop, replicate};
 ghost use Rattle.formats.specs.Formats.{lineBytes};
 ghost use Rattle.bits.specs.Bits.{bitsOf};
-ghost use Rattle.sectors.specs.Layout.{dataAt, bytesOf, fillerBits, Sound};
+ghost use Rattle.sector_table.specs.Layout.{dataAt, bytesOf, fillerBits, Sound};
 ghost use Rattle.sectors.specs.Sector.{dataBitsOf};
 ghost use Rattle.sector_frame.specs.Written.{sectorWritten, dataWritten};
-use sectors::layout::CHECK_BITS;
-use sectors::layout::Layout;
-use sectors::layout::data_bytes;
+use sector_table::layout::CHECK_BITS;
+use sector_table::layout::Layout;
+use sector_table::layout::data_bytes;
 
 // Inner. The filler, 2,048 zeros from a place on.
 fn put_filler(line: &mut [u8], at: usize)

@@ -12,8 +12,8 @@ use Rattle.bits.proofs.Digits.{length-digits, number-digits}
 use Rattle.bits.proofs.Zeros.{set-zeros}
 use Rattle.crc.specs.Remainder.{remainderOf, checkWordOf}
 use Rattle.crc.proofs.Word.{checked}
-use Rattle.sectors.specs.declared.layout.Layout.{Layout}
-use Rattle.sectors.specs.Layout.{dataAt, fillerAt, coveredBits, checkBits, fillerBits, Sound}
+use Rattle.sector_table.specs.declared.layout.Layout.{Layout}
+use Rattle.sector_table.specs.Layout.{dataAt, fillerAt, coveredBits, checkBits, fillerBits, Sound}
 use Rattle.sectors.specs.Sector.{coveredOf, idOf, answerOf, fillerOf, dataBitsOf}
 use Rattle.sectors.proofs.Answers.{answer-none}
 use Rattle.sector_frame.specs.Written.{headOf, sectorOf, sectorWritten}

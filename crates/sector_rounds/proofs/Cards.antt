@@ -15,15 +15,15 @@ use Rattle.bits.proofs.Below.{below-take, below-drop}
 use Rattle.bits.proofs.Bytes.{length-bits, bits-below}
 use Rattle.bits.proofs.Stretches.{stretch-length}
 use Rattle.crc.proofs.Starts.{only-start}
-use Rattle.sectors.specs.declared.layout.Layout.{Layout}
-use Rattle.sectors.specs.Asked.{lineRefusal}
-use Rattle.sectors.specs.Layout.{layoutOf, coveredBits, Sound}
+use Rattle.sector_table.specs.declared.layout.Layout.{Layout}
+use Rattle.sector_table.specs.Asked.{lineRefusal}
+use Rattle.sector_table.specs.Layout.{layoutOf, coveredBits, Sound}
 use Rattle.sectors.specs.Sector.{coveredOf, answerOf, answersOf}
 use Rattle.sectors.specs.Calls.{acceptedAnswer, answersRefusal, answersAnswer}
-use Rattle.sectors.proofs.Admitted.{Admitted, admitted, admits}
+use Rattle.sector_table.proofs.Admitted.{Admitted, admitted, admits}
 use Rattle.sectors.proofs.Answers.{answer-five, answer-past}
 use Rattle.sectors.proofs.AtOnce.{length-answers, refused-alike, at-once}
-use Rattle.sectors.proofs.Table.{sound}
+use Rattle.sector_table.proofs.Table.{sound}
 
 -- ---- a sector
 

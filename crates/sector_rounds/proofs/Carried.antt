@@ -11,11 +11,11 @@ use Rattle.refusals.proofs.Words.{none-first, kept-none, kept-some}
 use Rattle.formats.specs.Formats.{informationBits, lineBytes, formatRefusal, checkStart}
 use Rattle.bits.specs.Bits.{bitsOf, Below}
 use Rattle.bits.proofs.Bytes.{length-bits}
-use Rattle.sectors.specs.declared.layout.Layout.{Layout}
-use Rattle.sectors.specs.Layout.{layoutOf, bytesOf, Sound}
-use Rattle.sectors.specs.Asked.{askedOf}
+use Rattle.sector_table.specs.declared.layout.Layout.{Layout}
+use Rattle.sector_table.specs.Layout.{layoutOf, bytesOf, Sound}
+use Rattle.sector_table.specs.Asked.{askedOf}
 use Rattle.sectors.specs.Sector.{answerOf, fillerOf, dataOf, pixelsOf}
-use Rattle.sectors.proofs.Table.{sound}
+use Rattle.sector_table.proofs.Table.{sound}
 use Rattle.sector_frame.specs.Written.{sectorOf, sectorWritten, dataWritten, pixelsWritten}
 use Rattle.sector_frame.proofs.Frames.{length-data-written, length-pixels-written}
 use Rattle.sector_writer.specs.Calls.{putDataAnswer, putDataLeft, putPixelsAnswer, putPixelsLeft}

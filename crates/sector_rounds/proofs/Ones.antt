@@ -12,10 +12,10 @@ use Rattle.bits.proofs.Through.{through-append}
 use Rattle.bits.proofs.Zeros.{digits-zeros}
 use Rattle.crc.specs.Remainder.{next, remainderOf, checkWordOf}
 use Rattle.crc.proofs.Starts.{opened}
-use Rattle.sectors.specs.declared.layout.Layout.{Layout}
-use Rattle.sectors.specs.Layout.{sectors, layoutOf, coveredBits, Sound}
+use Rattle.sector_table.specs.declared.layout.Layout.{Layout}
+use Rattle.sector_table.specs.Layout.{sectors, layoutOf, coveredBits, Sound}
 use Rattle.sectors.specs.Sector.{coveredOf, answerOf}
-use Rattle.sectors.proofs.Table.{sound}
+use Rattle.sector_table.proofs.Table.{sound}
 use Rattle.sector_frame.specs.Written.{headOf}
 use Rattle.sector_rounds.proofs.Points.{doc-head, first-bits, p3-accepted}
 use Rattle.sector_rounds.proofs.Cards.{other-start}

@@ -11,11 +11,11 @@ use Rattle.bits.specs.Bits.{digits, through, numberOf, stretch}
 use Rattle.bits.proofs.Zeros.{number-zeros, digits-zeros}
 use Rattle.crc.specs.Remainder.{next, preset, remainderOf, checkWordOf}
 use Rattle.crc.proofs.Zeros.{remainder-zeros, word-zeros}
-use Rattle.sectors.specs.declared.layout.Layout.{Layout}
-use Rattle.sectors.specs.Layout.{sectors, layoutOf, coveredBits, Sound}
+use Rattle.sector_table.specs.declared.layout.Layout.{Layout}
+use Rattle.sector_table.specs.Layout.{sectors, layoutOf, coveredBits, Sound}
 use Rattle.sectors.specs.Sector.{coveredOf, idOf, answerOf, joinedOf}
 use Rattle.sectors.proofs.Answers.{answer-none}
-use Rattle.sectors.proofs.Table.{sound}
+use Rattle.sector_table.proofs.Table.{sound}
 use Rattle.sector_frame.specs.Written.{headOf}
 
 -- ---- a DOC sector of zeros, but for its last data bits

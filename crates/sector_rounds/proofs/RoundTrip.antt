@@ -15,8 +15,8 @@ use Rattle.bits.proofs.Digits.{digits-cat}
 use Rattle.bits.proofs.Packed.{packed-snoc}
 use Rattle.bits.proofs.Fields.{fields-packed}
 use Rattle.bits.proofs.Zeros.{digits-zeros}
-use Rattle.sectors.specs.declared.layout.Layout.{Layout}
-use Rattle.sectors.specs.Layout.{bytesOf, spareOf, Sound}
+use Rattle.sector_table.specs.declared.layout.Layout.{Layout}
+use Rattle.sector_table.specs.Layout.{bytesOf, spareOf, Sound}
 use Rattle.sectors.specs.Sector.{dataOf, pixelsOf}
 use Rattle.sector_frame.specs.Written.{sectorWritten, dataWritten, pixelsWritten}
 use Rattle.sector_frame.proofs.Frames.{bytes-written, length-data-written, length-pixels-written}

@@ -12,11 +12,11 @@ use Rattle.refusals.proofs.Given.{given-none}
 use Rattle.formats.specs.Formats.{lineBytes, checkStart}
 use Rattle.bits.specs.Bits.{bitsOf}
 use Rattle.sectors.specs.declared.check.Counted.the-variants.{Set, Refused}
-use Rattle.sectors.specs.Layout.{layoutOf, bytesOf}
-use Rattle.sectors.specs.Asked.{lineRefusal}
+use Rattle.sector_table.specs.Layout.{layoutOf, bytesOf}
+use Rattle.sector_table.specs.Asked.{lineRefusal}
 use Rattle.sectors.specs.Sector.{answerOf, fillerOf, dataOf, pixelsOf}
 use Rattle.sectors.specs.Calls.{acceptedAnswer, fillerAnswer, fillerRefusal}
-use Rattle.sectors.proofs.Admitted.{admits}
+use Rattle.sector_table.proofs.Admitted.{admits}
 use Rattle.pixels.specs.Calls.{valuesRefusal, dataAnswer, dataLeft, pixelsAnswer, pixelsLeft}
 use Rattle.sector_rounds.specs.Cleared.{clearedOf}
 use Rattle.sector_rounds.specs.Puts.{Put, Data, Pixels, Wide, Holds, PixelsBack, ValuesBack, ComesBack}

@@ -5,7 +5,7 @@ use Prim.Native.Nat.{ℕ, _≤_}
 use lib.ListN.{length, take, drop}
 use Rattle.bits.specs.Bits.{bitsOf, Below}
 use Rattle.sectors.specs.declared.check.Counted.the-variants.{Set}
-use Rattle.sectors.specs.Layout.{layoutOf, bytesOf}
+use Rattle.sector_table.specs.Layout.{layoutOf, bytesOf}
 use Rattle.sectors.specs.Calls.{acceptedAnswer, fillerAnswer}
 use Rattle.pixels.specs.Calls.{dataAnswer, dataLeft, pixelsAnswer, pixelsLeft}
 use Rattle.sector_writer.specs.Calls.{putDataAnswer, putDataLeft, putPixelsAnswer, putPixelsLeft}

@@ -8,11 +8,11 @@ use Rattle.refusals.specs.Refusals.{first, shortOf}
 use Rattle.refusals.proofs.Words.{none-first, none-second, enough, Inside}
 use Rattle.formats.specs.Formats.{lineBytes}
 use Rattle.bits.specs.Bits.{Below}
-use Rattle.sectors.specs.declared.layout.Layout.{Layout}
-use Rattle.sectors.specs.Layout.{layoutOf, bytesOf, Sound}
-use Rattle.sectors.specs.Asked.{askedOf}
-use Rattle.sectors.proofs.Table.{sound}
-use Rattle.sectors.proofs.Admitted.{served}
+use Rattle.sector_table.specs.declared.layout.Layout.{Layout}
+use Rattle.sector_table.specs.Layout.{layoutOf, bytesOf, Sound}
+use Rattle.sector_table.specs.Asked.{askedOf}
+use Rattle.sector_table.proofs.Table.{sound}
+use Rattle.sector_table.proofs.Admitted.{served}
 use Rattle.sector_frame.specs.Written.{overOf}
 use Rattle.sector_frame.proofs.Overs.{none-over}
 use Rattle.sector_writer.specs.Calls.{inputShort, putDataAnswer, putPixelsAnswer}

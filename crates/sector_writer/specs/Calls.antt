@@ -6,8 +6,8 @@ use lib.ListN.{length, take}
 use Rattle.refusals.specs.Refusals.{first, kept, shortOf}
 use Rattle.formats.specs.Formats.{lineBytes, checkStart}
 use Rattle.bits.specs.Bits.{bitsOf}
-use Rattle.sectors.specs.Layout.{layoutOf, bytesOf}
-use Rattle.sectors.specs.Asked.{askedOf}
+use Rattle.sector_table.specs.Layout.{layoutOf, bytesOf}
+use Rattle.sector_table.specs.Asked.{askedOf}
 use Rattle.sector_frame.specs.Written.{sectorWritten, dataWritten, pixelsWritten, overOf}
 
 -- 2: the line's buffer is short, or what is to be written is

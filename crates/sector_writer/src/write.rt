@@ -4,7 +4,7 @@ ghost use Prim.Native.Nat.{_≤_};
 ghost use lib.ListN.{length};
 ghost use Rattle.formats.specs.Formats.{lineBytes};
 ghost use Rattle.bits.specs.Bits.{bitsOf};
-ghost use Rattle.sectors.specs.Layout.{bytesOf, Sound};
+ghost use Rattle.sector_table.specs.Layout.{bytesOf, Sound};
 ghost use Rattle.sector_frame.specs.Written.{dataWritten, pixelsWritten, sectorWritten};
 ghost use Rattle.sector_writer.specs.Calls.{inputShort, putDataAnswer, putDataLeft, putPixelsAnswer, putPixelsLeft};
 use formats::Format;
@@ -16,10 +16,10 @@ use sector_frame::frame::put_frame;
 use sector_frame::over::limit_of;
 use sector_frame::over::over_bytes;
 use sector_frame::over::over_wide;
-use sectors::asked::asked;
-use sectors::layout::Layout;
-use sectors::layout::data_bytes;
-use sectors::layout::layout_of;
+use sector_table::asked::asked;
+use sector_table::layout::Layout;
+use sector_table::layout::data_bytes;
+use sector_table::layout::layout_of;
 
 // Inner. 2 where the line's buffer is short, or fewer were given than are needed; else 0.
 fn input_short(length: usize, given: usize, needed: usize) -> u8

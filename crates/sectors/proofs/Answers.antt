@@ -8,7 +8,7 @@ use lib.Dec.{eqb}
 use Rattle.refusals.specs.Refusals.{first, when}
 use Rattle.bits.specs.Bits.{bitsOf, part, numberOf}
 use Rattle.crc.specs.Remainder.{remainderOf}
-use Rattle.sectors.specs.declared.layout.Layout.{Layout}
+use Rattle.sector_table.specs.declared.layout.Layout.{Layout}
 use Rattle.sectors.specs.Sector.{coveredOf, idOf, answerOf}
 
 module _ (start : ℕ) (l : Layout) (b : List ℕ) where

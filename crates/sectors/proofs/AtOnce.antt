@@ -11,14 +11,14 @@ use Rattle.refusals.specs.Refusals.{first, kept, shortOf}
 use Rattle.refusals.proofs.Words.{first-none, first-some, none-second, kept-none, turned-away, done, enough, within}
 use Rattle.formats.specs.Formats.{lineBytes, formatRefusal, checkStart}
 use Rattle.bits.specs.Bits.{bitsOf}
-use Rattle.sectors.specs.declared.layout.Layout.{Layout}
+use Rattle.sector_table.specs.declared.layout.Layout.{Layout}
 use Rattle.sectors.specs.declared.check.Twelve.{Twelve}
-use Rattle.sectors.specs.Layout.{sectors, none, layoutOf}
-use Rattle.sectors.specs.Asked.{askedOf, lineRefusal}
+use Rattle.sector_table.specs.Layout.{sectors, none, layoutOf}
+use Rattle.sector_table.specs.Asked.{askedOf, lineRefusal}
 use Rattle.sectors.specs.Sector.{answerOf, answersOf}
 use Rattle.sectors.specs.Calls.{acceptedAnswer, answersRefusal, answersAnswer}
 use Rattle.refusals.proofs.Chains.{first-zero}
-use Rattle.sectors.proofs.Table.{twelve}
+use Rattle.sector_table.proofs.Table.{twelve}
 
 -- ---- the list
 

@@ -1,7 +1,3 @@
-pub mod Admitted
-pub mod Table
-pub mod Rows
-pub mod Bounds
 pub mod Answers
 pub mod AtOnce
 pub mod Settled

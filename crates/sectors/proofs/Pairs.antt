@@ -5,9 +5,9 @@ use Prim.Native.Nat.{ℕ, suc, _≤_}
 use native.Mathlib.Nat.{suc-inj, suc-ne-zero}
 use native.Mathlib.Omega.{arith}
 use lib.ListN.{length}
-use Rattle.sectors.specs.Layout.{sectors, layoutOf, upperOf, lowerOf}
+use Rattle.sector_table.specs.Layout.{sectors, layoutOf, upperOf, lowerOf}
 use Rattle.sectors.specs.Sector.{joinedPixel, joinedOf}
-use Rattle.sectors.proofs.Rows.{Each, among}
+use Rattle.sector_table.proofs.Rows.{Each, among}
 
 pub length-joined : (xs ys : List ℕ) → length xs ≡ length ys → length (joinedOf xs ys) ≡ length xs
 unfolding joinedOf

@@ -10,8 +10,8 @@ use Rattle.bits.specs.Bits.{bitsOf}
 use Rattle.sectors.specs.declared.check.Counted.{Counted}
 use Rattle.sectors.specs.declared.check.Counted.the-variants.{Set, Refused}
 use Rattle.sectors.specs.declared.check.Twelve.{Twelve}
-use Rattle.sectors.specs.Layout.{layoutOf}
-use Rattle.sectors.specs.Asked.{lineRefusal}
+use Rattle.sector_table.specs.Layout.{layoutOf}
+use Rattle.sector_table.specs.Asked.{lineRefusal}
 use Rattle.sectors.specs.Sector.{answerOf, answersOf, fillerOf}
 
 -- ---- accepted: 1, 4, 2, 5, 6

@@ -1,4 +1,2 @@
-pub mod Layout
-pub mod Asked
 pub mod Sector
 pub mod Calls

@@ -8,8 +8,8 @@ use lib.ListN.{replicate}
 use Rattle.refusals.specs.Refusals.{first, when}
 use Rattle.bits.specs.Bits.{stretch, numberOf, setBits, fieldsOf}
 use Rattle.crc.specs.Remainder.{remainderOf}
-use Rattle.sectors.specs.declared.layout.Layout.{Layout}
-use Rattle.sectors.specs.Layout.{sectors, dataAt, fillerAt, coveredBits, fillerBits, bytesOf, spareOf}
+use Rattle.sector_table.specs.declared.layout.Layout.{Layout}
+use Rattle.sector_table.specs.Layout.{sectors, dataAt, fillerAt, coveredBits, fillerBits, bytesOf, spareOf}
 
 -- ---- the check
 

@@ -4,19 +4,19 @@ ghost use Prim.Native.Nat.{_≤_};
 ghost use lib.ListN.{length};
 ghost use Rattle.formats.specs.Formats.{lineBytes};
 ghost use Rattle.bits.specs.Bits.{bitsOf};
-ghost use Rattle.sectors.specs.Layout.{Sound};
+ghost use Rattle.sector_table.specs.Layout.{Sound};
 ghost use Rattle.sectors.specs.Sector.{answerOf, answersOf, fillerOf};
 ghost use Rattle.sectors.specs.Calls.{acceptedAnswer, FillerOk, answersRefusal, answersAnswer};
-use crate::asked::line_refusal;
-use crate::layout::CHECK_BITS;
-use crate::layout::FILLER_BITS;
-use crate::layout::Layout;
-use crate::layout::layout_of;
 use formats::Format;
 use formats::check_start;
 use formats::format_refusal;
 use refusals::first;
 use refusals::short;
+use sector_table::asked::line_refusal;
+use sector_table::layout::CHECK_BITS;
+use sector_table::layout::FILLER_BITS;
+use sector_table::layout::Layout;
+use sector_table::layout::layout_of;
 
 // The answer to a count.
 pub enum Counted {

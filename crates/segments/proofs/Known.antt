@@ -13,7 +13,8 @@ use Rattle.refusals.proofs.Words.{first-none, none-first, none-second, none-whe
 use Rattle.refusals.proofs.Given.{given-some, given-none}
 use Rattle.refusals.proofs.Says.{Says}
 use Rattle.formats.specs.Formats.{lineBytes, formatRefusal}
-use Rattle.document.specs.Place.{docByte, docRefusal}
+use Rattle.document.specs.Place.{docRefusal}
+use Rattle.sector_table.specs.Place.{docByte}
 use Rattle.document.specs.declared.segments.SubCommutation.{SubCommutation}
 use Rattle.document.specs.Segments.{segmentRefusal, subCommutationRefusal, SubCommutationOk}
 use Rattle.document.proofs.Settled.{sub-kind}

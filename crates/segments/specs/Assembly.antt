@@ -9,7 +9,7 @@ use Rattle.refusals.specs.Refusals.{first, shortOf, answered, kept, Genuine}
 use Rattle.formats.specs.Formats.{lineBytes, formatRefusal}
 use Rattle.document.specs.declared.segments.SubCommutation.{SubCommutation}
 use Rattle.document.specs.declared.segments.SubCommutation.the-variants as sub
-use Rattle.document.specs.Place.{docByte}
+use Rattle.sector_table.specs.Place.{docByte}
 use Rattle.document.specs.Segments.{subNumber, subValues, subCommutationRefusal}
 use Rattle.blocks.specs.declared.block.Block.{Block}
 use Rattle.blocks.specs.declared.marks.Marks.{Marks}

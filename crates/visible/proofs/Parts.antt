@@ -10,9 +10,9 @@ use Rattle.refusals.specs.Refusals.{first, shortOf}
 use Rattle.refusals.proofs.Words.{none-first, none-second, enough, length-kept}
 use Rattle.formats.specs.Formats.{lineBytes, formatRefusal}
 use Rattle.bits.proofs.Fields.{length-fields}
-use Rattle.sectors.specs.Layout.{sectors, layoutOf}
+use Rattle.sector_table.specs.Layout.{sectors, layoutOf}
 use Rattle.sectors.specs.Sector.{answerOf, pixelsOf}
-use Rattle.sectors.proofs.Rows.{Each, among}
+use Rattle.sector_table.proofs.Rows.{Each, among}
 use Rattle.visible.specs.Strip.{partBytes, stripBytes, visibleOf, lentOf, stripOf, stripRefusal}
 
 -- ---- a visible sector fills its part

@@ -7,7 +7,7 @@ use lib.ListN.{length, take, drop}
 use Rattle.refusals.specs.Refusals.{first, answered, kept, shortOf, Genuine}
 use Rattle.formats.specs.Formats.{lineBytes, formatRefusal, checkStart}
 use Rattle.bits.specs.Bits.{bitsOf}
-use Rattle.sectors.specs.Layout.{layoutOf}
+use Rattle.sector_table.specs.Layout.{layoutOf}
 use Rattle.sectors.specs.Sector.{answerOf, pixelsOf}
 use Rattle.visible.specs.declared.strip.PartAnswers.{PartAnswers}
 use Rattle.visible.specs.declared.strip.Stripped.{Stripped}

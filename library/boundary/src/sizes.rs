@@ -17,7 +17,7 @@ enum From {
 use From::{Bytes, Constants, Field};
 
 pub const FORMATS: &str = "crates/formats/src/lib.rt";
-pub const LAYOUT: &str = "crates/sectors/src/layout.rt";
+pub const LAYOUT: &str = "crates/sector_table/src/layout.rt";
 const STRIP: &str = "crates/visible/src/strip.rt";
 pub const BLOCK: &str = "crates/blocks/src/block.rt";
 const MARKS: &str = "crates/blocks/src/marks.rt";

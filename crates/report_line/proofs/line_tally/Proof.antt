@@ -4,10 +4,10 @@ use mathlib.Core.Logic.{_⊎_}
 use Prim.Native.Nat.{ℕ}
 use denote.Ref.{now}
 use Rattle.bits.specs.Bits.{bitsOf}
-use Rattle.sectors.specs.declared.layout.Layout.{Layout}
-use Rattle.sectors.specs.Layout.{Sound}
+use Rattle.sector_table.specs.declared.layout.Layout.{Layout}
+use Rattle.sector_table.specs.Layout.{Sound}
 use Rattle.sectors.specs.Sector.{answerOf, fillerOf}
-use Rattle.sectors.proofs.Table.{sound}
+use Rattle.sector_table.proofs.Table.{sound}
 use Rattle.report_line.proofs.Sectors.{answer-three, tally-one}
 use borrow.Author.Needs.{needs}
 use Rattle.report_line.proofs.line_tally.Statement.{statement}

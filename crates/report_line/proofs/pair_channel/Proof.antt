@@ -6,10 +6,10 @@ use borrow.Author.Tests.{eq-eqb, ne-eqb}
 use mathlib.Core.List.{List}
 use mathlib.Core.Bool.{_&&_}
 use lib.Dec.{eqb}
-use Rattle.sectors.specs.Layout.{upperOf, lowerOf}
+use Rattle.sector_table.specs.Layout.{upperOf, lowerOf}
 use Prim.Native.Nat.{ℕ}
 use Rattle.bits.specs.Bits.{bitsOf}
-use Rattle.sectors.specs.declared.layout.Layout.{Layout}
+use Rattle.sector_table.specs.declared.layout.Layout.{Layout}
 use Rattle.sectors.specs.Sector.{pixelsOf, joinedOf}
 use Rattle.report_record.specs.Report.{channelOf}
 use Rattle.report_record.proofs.Rows.{and-both, and-fails, and-fails-left}

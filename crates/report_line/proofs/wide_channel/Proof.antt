@@ -4,7 +4,7 @@ use native.Mathlib.Omega.{arith}
 use denote.Ref.{now}
 use borrow.Author.Tests.{eq-eqb, ne-eqb}
 use Rattle.bits.specs.Bits.{bitsOf}
-use Rattle.sectors.specs.declared.layout.Layout.{Layout}
+use Rattle.sector_table.specs.declared.layout.Layout.{Layout}
 use Rattle.sectors.specs.Sector.{pixelsOf}
 use Rattle.report_record.specs.Report.{channelOf}
 use Rattle.report_line.proofs.Sectors.{Row, last-row, row-inside, row-places, row-pixels, given-none, given-some}

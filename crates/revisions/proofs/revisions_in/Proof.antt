@@ -1,5 +1,5 @@
 -- `revisions::revisions_in` meets its contract. Assumes nothing.
-use Rattle.document.specs.Place.{docPart}
+use Rattle.sector_table.specs.Place.{docPart}
 use Rattle.revisions.specs.Carried.{revisionsIn}
 use borrow.Author.Needs.{needs}
 use Rattle.revisions.proofs.revisions_in.Statement.{statement}

@@ -7,7 +7,7 @@ use borrow.Author.Needs.{needs}
 use denote.Ref.{now}
 use lib.ListN.{drop}
 use Rattle.bits.specs.Bits.{bitsOf, fieldsOf}
-use Rattle.sectors.specs.Layout.{dataAt}
+use Rattle.sector_table.specs.Layout.{dataAt}
 use Rattle.sectors.specs.Sector.{joinedOf}
 use Rattle.pixels.proofs.Unpacked.{pixels-here}
 use Rattle.channels.proofs.join.join.Statement.{statement}

@@ -9,10 +9,10 @@ use borrow.Author.Needs.{needs}
 use Rattle.refusals.proofs.Words.{turned-away, done}
 use Rattle.formats.specs.Formats.{lineBytes, checkStart}
 use Rattle.bits.specs.Bits.{bitsOf}
-use Rattle.sectors.specs.declared.layout.Layout.{Layout}
-use Rattle.sectors.specs.Layout.{Sound, upperOf, lowerOf}
+use Rattle.sector_table.specs.declared.layout.Layout.{Layout}
+use Rattle.sector_table.specs.Layout.{Sound, upperOf, lowerOf}
 use Rattle.sectors.specs.Sector.{pixelsOf, joinedOf}
-use Rattle.sectors.proofs.Table.{sound}
+use Rattle.sector_table.proofs.Table.{sound}
 use Rattle.sectors.proofs.Pairs.{upper-wide, lower-wide, as-many}
 use Rattle.pixels.proofs.Readable.{Readable, readable-more}
 use Rattle.channels.specs.Join.{joinedAnswer, joinedLeft}

@@ -8,11 +8,11 @@ use borrow.Author.Needs.{needs}
 use Rattle.refusals.proofs.Words.{refused, passed}
 use Rattle.formats.specs.Formats.{checkStart}
 use Rattle.bits.specs.Bits.{bitsOf}
-use Rattle.sectors.specs.declared.layout.Layout.{Layout}
-use Rattle.sectors.specs.Layout.{Sound, upperOf}
+use Rattle.sector_table.specs.declared.layout.Layout.{Layout}
+use Rattle.sector_table.specs.Layout.{Sound, upperOf}
 use Rattle.sectors.specs.Sector.{answerOf}
-use Rattle.sectors.proofs.Admitted.{Admitted, admitted}
-use Rattle.sectors.proofs.Table.{sound}
+use Rattle.sector_table.proofs.Admitted.{Admitted, admitted}
+use Rattle.sector_table.proofs.Table.{sound}
 use Rattle.pixels.specs.Calls.{valuesRefusal}
 use Rattle.channels.specs.Join.{joinedAnswer}
 use Rattle.channels.proofs.join.joined_refusal.Statement.{statement}

@@ -1,7 +1,7 @@
 -- `document::place::doc_byte` meets its contract. Assumes nothing.
 use mathlib.Core.Path.{refl}
 use borrow.Author.Needs.{needs}
-use Rattle.document.specs.Place.{docByte}
+use Rattle.sector_table.specs.Place.{docByte}
 use Rattle.document.proofs.place.doc_byte.Statement.{statement}
 use Rattle.document.proofs.place.doc_byte.Tie as tie
 

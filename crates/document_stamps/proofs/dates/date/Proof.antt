@@ -8,7 +8,7 @@ use Rattle.refusals.proofs.Words.{refused, passed}
 use Rattle.refusals.proofs.Says.{says-some, says-none}
 use Rattle.formats.specs.Formats.{lineBytes}
 use Rattle.bits.specs.Bits.{stretch}
-use Rattle.document.specs.Place.{docPart}
+use Rattle.sector_table.specs.Place.{docPart}
 use Rattle.document.proofs.Known.{doc-long}
 use Rattle.document_stamps.specs.Dates.{dateRefusal}
 use Rattle.document_stamps.proofs.Settled.{dated-kind}

@@ -6,7 +6,7 @@ use borrow.Author.Needs.{needs}
 use denote.Ref.{now}
 use lib.ListN.{take, drop}
 use Rattle.bits.specs.Bits.{stretch}
-use Rattle.document.specs.Place.{docPart}
+use Rattle.sector_table.specs.Place.{docPart}
 use Rattle.document_stamps.specs.Stamps.{stampOf}
 use Rattle.document_stamps.proofs.Stamped.{two-copies, count-length}
 use Rattle.document_stamps.proofs.stamp.stamp_of.Statement.{statement}

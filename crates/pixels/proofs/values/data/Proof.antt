@@ -6,10 +6,10 @@ use lib.ListN.{length, drop}
 use borrow.Author.Needs.{needs}
 use Rattle.refusals.proofs.Words.{turned-away, done}
 use Rattle.bits.specs.Bits.{bitsOf}
-use Rattle.sectors.specs.declared.layout.Layout.{Layout}
-use Rattle.sectors.specs.Layout.{bytesOf}
+use Rattle.sector_table.specs.declared.layout.Layout.{Layout}
+use Rattle.sector_table.specs.Layout.{bytesOf}
 use Rattle.sectors.specs.Sector.{dataOf}
-use Rattle.sectors.proofs.Table.{sound}
+use Rattle.sector_table.proofs.Table.{sound}
 use Rattle.pixels.specs.Calls.{dataAnswer, dataLeft}
 use Rattle.pixels.proofs.Readable.{data-readable, ready}
 use Rattle.pixels.proofs.values.data.Statement.{statement}

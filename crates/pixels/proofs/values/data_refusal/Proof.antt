@@ -6,10 +6,10 @@ use lib.ListN.{length}
 use borrow.Author.Needs.{needs}
 use Rattle.refusals.proofs.Words.{refused, passed}
 use Rattle.bits.specs.Bits.{bitsOf}
-use Rattle.sectors.specs.declared.layout.Layout.{Layout}
-use Rattle.sectors.specs.Layout.{bytesOf, Sound}
-use Rattle.sectors.proofs.Admitted.{Admitted, admitted}
-use Rattle.sectors.proofs.Table.{sound}
+use Rattle.sector_table.specs.declared.layout.Layout.{Layout}
+use Rattle.sector_table.specs.Layout.{bytesOf, Sound}
+use Rattle.sector_table.proofs.Admitted.{Admitted, admitted}
+use Rattle.sector_table.proofs.Table.{sound}
 use Rattle.pixels.specs.Calls.{valuesRefusal, dataAnswer}
 use Rattle.pixels.proofs.values.data_refusal.Statement.{statement}
 use Rattle.pixels.proofs.values.data_refusal.Tie as tie

@@ -8,9 +8,9 @@ use lib.ListN.{length, drop}
 use borrow.Author.Needs.{needs}
 use Rattle.refusals.proofs.Words.{turned-away, done}
 use Rattle.bits.specs.Bits.{bitsOf}
-use Rattle.sectors.specs.declared.layout.Layout.{Layout}
+use Rattle.sector_table.specs.declared.layout.Layout.{Layout}
 use Rattle.sectors.specs.Sector.{pixelsOf}
-use Rattle.sectors.proofs.Table.{sound, thin}
+use Rattle.sector_table.proofs.Table.{sound, thin}
 use Rattle.pixels.specs.Calls.{pixelsAnswer, pixelsLeft}
 use Rattle.pixels.proofs.Readable.{pixels-readable, ready}
 use Rattle.pixels.proofs.values.pixels.Statement.{statement}

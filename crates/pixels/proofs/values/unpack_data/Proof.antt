@@ -6,7 +6,7 @@ use native.Mathlib.Omega.{arith}
 use denote.Ref.{now}
 use lib.ListN.{set}
 use borrow.Author.Needs.{needs}
-use Rattle.sectors.specs.Layout.{bytesOf, spareOf}
+use Rattle.sector_table.specs.Layout.{bytesOf, spareOf}
 use Rattle.pixels.proofs.Unpacked.{data-filled}
 use Rattle.pixels.proofs.values.unpack_data.Statement.{statement}
 use Rattle.pixels.proofs.values.unpack_data.Tie as tie

@@ -12,8 +12,8 @@ use Rattle.bits.specs.Bits.{digits, packedOf, bitsOf}
 use Rattle.bits.proofs.Bytes.{length-bits}
 use Rattle.bits.proofs.Packed.{length-packed}
 use Rattle.bits.proofs.Writes.{write-more}
-use Rattle.sectors.specs.Layout.{dataAt, bytesOf}
-use Rattle.sectors.proofs.Bounds.{ends}
+use Rattle.sector_table.specs.Layout.{dataAt, bytesOf}
+use Rattle.sector_table.proofs.Bounds.{ends}
 use Rattle.sector_frame.specs.Written.{dataWritten}
 use Rattle.sector_frame.proofs.Frames.{bytes-written}
 use Rattle.sector_frame.proofs.frame.put_bytes.Statement.{statement}

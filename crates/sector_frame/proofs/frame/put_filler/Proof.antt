@@ -7,7 +7,7 @@ use lib.ListN.{take, drop}
 use borrow.Author.Needs.{needs}
 use Rattle.bits.specs.Bits.{bitsOf}
 use Rattle.bits.proofs.Zeros.{packed-zeros}
-use Rattle.sectors.specs.Layout.{fillerBits}
+use Rattle.sector_table.specs.Layout.{fillerBits}
 use Rattle.sector_frame.proofs.frame.put_filler.Statement.{statement}
 use Rattle.sector_frame.proofs.frame.put_filler.Tie as tie
 

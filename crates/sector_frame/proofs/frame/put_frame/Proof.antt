@@ -5,7 +5,7 @@ use lib.ListN.{length}
 use borrow.Author.Needs.{needs}
 use Rattle.bits.specs.Bits.{bitsOf, part}
 use Rattle.bits.proofs.Bytes.{length-bits}
-use Rattle.sectors.proofs.Bounds.{ends}
+use Rattle.sector_table.proofs.Bounds.{ends}
 use Rattle.sector_frame.proofs.Frames.{framed}
 use Rattle.sector_frame.proofs.frame.put_frame.Statement.{statement}
 use Rattle.sector_frame.proofs.frame.put_frame.Tie as tie

@@ -2,10 +2,10 @@
 use mathlib.Core.Path.{sym, ap, subst, _∙_}
 use borrow.Author.Needs.{needs}
 use Rattle.refusals.proofs.Words.{refused, passed, Inside}
-use Rattle.sectors.specs.declared.layout.Layout.{Layout}
-use Rattle.sectors.specs.Layout.{bytesOf, Sound}
-use Rattle.sectors.proofs.Admitted.{served}
-use Rattle.sectors.proofs.Table.{sound}
+use Rattle.sector_table.specs.declared.layout.Layout.{Layout}
+use Rattle.sector_table.specs.Layout.{bytesOf, Sound}
+use Rattle.sector_table.proofs.Admitted.{served}
+use Rattle.sector_table.proofs.Table.{sound}
 use Rattle.sector_writer.specs.Calls.{inputShort, putDataAnswer}
 use Rattle.sector_writer.proofs.write.data_refusal.Statement.{statement}
 use Rattle.sector_writer.proofs.write.data_refusal.Tie as tie

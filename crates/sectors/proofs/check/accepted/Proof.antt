@@ -6,12 +6,12 @@ use lib.ListN.{length}
 use borrow.Author.Needs.{needs}
 use Rattle.refusals.proofs.Words.{refused, passed}
 use Rattle.bits.specs.Bits.{bitsOf}
-use Rattle.sectors.specs.declared.layout.Layout.{Layout}
-use Rattle.sectors.specs.Layout.{Sound}
+use Rattle.sector_table.specs.declared.layout.Layout.{Layout}
+use Rattle.sector_table.specs.Layout.{Sound}
 use Rattle.sectors.specs.Sector.{answerOf}
 use Rattle.sectors.specs.Calls.{acceptedAnswer}
-use Rattle.sectors.proofs.Admitted.{Admitted, admitted}
-use Rattle.sectors.proofs.Table.{sound}
+use Rattle.sector_table.proofs.Admitted.{Admitted, admitted}
+use Rattle.sector_table.proofs.Table.{sound}
 use Rattle.sectors.proofs.check.accepted.Statement.{statement}
 use Rattle.sectors.proofs.check.accepted.Tie as tie
 

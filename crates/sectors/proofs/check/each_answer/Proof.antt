@@ -6,10 +6,10 @@ use borrow.Author.Needs.{needs}
 use denote.Ref.{now}
 use lib.ListN.{length, getD, take, length-set}
 use Rattle.bits.specs.Bits.{bitsOf}
-use Rattle.sectors.specs.declared.layout.Layout.{Layout}
-use Rattle.sectors.specs.Layout.{Sound}
+use Rattle.sector_table.specs.declared.layout.Layout.{Layout}
+use Rattle.sector_table.specs.Layout.{Sound}
 use Rattle.sectors.specs.Sector.{answerOf, answersOf}
-use Rattle.sectors.proofs.Table.{sound}
+use Rattle.sector_table.proofs.Table.{sound}
 use Rattle.sectors.proofs.AtOnce.{length-answers, answers-at, turn, all}
 use Rattle.sectors.proofs.check.each_answer.Statement.{statement}
 use Rattle.sectors.proofs.check.each_answer.Tie as tie

@@ -5,13 +5,13 @@ use lib.ListN.{length}
 use borrow.Author.Needs.{needs}
 use Rattle.refusals.proofs.Says.{says-some, says-none}
 use Rattle.bits.specs.Bits.{bitsOf}
-use Rattle.sectors.specs.declared.layout.Layout.{Layout}
-use Rattle.sectors.specs.Layout.{Sound}
+use Rattle.sector_table.specs.declared.layout.Layout.{Layout}
+use Rattle.sector_table.specs.Layout.{Sound}
 use Rattle.sectors.specs.Sector.{fillerOf}
 use Rattle.sectors.specs.Calls.{fillerRefusal}
-use Rattle.sectors.proofs.Admitted.{Admitted, admitted}
+use Rattle.sector_table.proofs.Admitted.{Admitted, admitted}
 use Rattle.sectors.proofs.Settled.{counted}
-use Rattle.sectors.proofs.Table.{sound}
+use Rattle.sector_table.proofs.Table.{sound}
 use Rattle.sectors.proofs.check.filler.Statement.{statement}
 use Rattle.sectors.proofs.check.filler.Tie as tie
 

@@ -9,10 +9,10 @@ use borrow.Author.Needs.{needs}
 use Rattle.refusals.proofs.Words.{turned-away, done}
 use Rattle.formats.specs.Formats.{lineBytes}
 use Rattle.bits.specs.Bits.{bitsOf}
-use Rattle.sectors.specs.declared.layout.Layout.{Layout}
-use Rattle.sectors.specs.Layout.{layoutOf, Sound}
+use Rattle.sector_table.specs.declared.layout.Layout.{Layout}
+use Rattle.sector_table.specs.Layout.{layoutOf, Sound}
 use Rattle.sectors.specs.Sector.{answerOf, pixelsOf}
-use Rattle.sectors.proofs.Table.{sound, thin}
+use Rattle.sector_table.proofs.Table.{sound, thin}
 use Rattle.visible.specs.Strip.{visibleOf}
 use Rattle.visible.proofs.Parts.{visible-count}
 use Rattle.visible.proofs.strip.visible.Statement.{statement}

@@ -1,10 +1,10 @@
--- `sectors::asked::line_refusal` meets its contract. Assumes nothing.
+-- `sector_table::asked::line_refusal` meets its contract. Assumes nothing.
 use mathlib.Core.Path.{ap₂, _∙_}
 use borrow.Author.Needs.{needs}
 use Rattle.refusals.specs.Refusals.{first}
-use Rattle.sectors.specs.Asked.{lineRefusal}
-use Rattle.sectors.proofs.asked.line_refusal.Statement.{statement}
-use Rattle.sectors.proofs.asked.line_refusal.Tie as tie
+use Rattle.sector_table.specs.Asked.{lineRefusal}
+use Rattle.sector_table.proofs.asked.line_refusal.Statement.{statement}
+use Rattle.sector_table.proofs.asked.line_refusal.Tie as tie
 
 asked-requires : tie.Need-asked-requires
 asked-requires c κs = search needs

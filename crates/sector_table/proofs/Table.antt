@@ -11,8 +11,8 @@ use lib.ListN.{length, getD, take}
 use lib.Seq.{getD-take}
 use lib.Ieee.Fits.{and-l, and-r}
 use Rattle.formats.specs.Formats.{informationBits}
-use Rattle.sectors.specs.declared.layout.Layout.{Layout}
-use Rattle.sectors.specs.Layout.{sectors, none, layoutOf, checkBits, fillerBits, fillerAt, Sound}
+use Rattle.sector_table.specs.declared.layout.Layout.{Layout}
+use Rattle.sector_table.specs.Layout.{sectors, none, layoutOf, checkBits, fillerBits, fillerAt, Sound}
 
 -- ---- a test over the whole table
 

@@ -5,7 +5,7 @@ use mathlib.Core.Path.{_≡_}
 use mathlib.Core.List.{List, [], _∷_}
 use lib.ListN.{getD}
 use Rattle.formats.specs.Formats.{informationBits}
-use Rattle.sectors.specs.declared.layout.Layout.{Layout}
+use Rattle.sector_table.specs.declared.layout.Layout.{Layout}
 
 abbrev pub row : ℕ → ℕ → ℕ → ℕ → ℕ → ℕ → ℕ → Layout
 row s b k i d c w = record { start = s; bits = b; «id_bits» = k; id = i; «data_bits» = d; count = c; width = w }

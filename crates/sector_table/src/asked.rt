@@ -1,6 +1,6 @@
 // What every call on one sector tests before it looks at it: format, number, and the length of the line's buffer.
 ghost use mathlib.Core.Path.{_≡_};
-ghost use Rattle.sectors.specs.Asked.{askedOf, lineRefusal};
+ghost use Rattle.sector_table.specs.Asked.{askedOf, lineRefusal};
 use formats::Format;
 use formats::format_refusal;
 use refusals::first;

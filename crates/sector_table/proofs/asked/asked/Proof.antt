@@ -1,10 +1,10 @@
--- `sectors::asked::asked` meets its contract. Assumes nothing.
+-- `sector_table::asked::asked` meets its contract. Assumes nothing.
 use mathlib.Core.Path.{ap₂, _∙_}
 use borrow.Author.Needs.{needs}
 use Rattle.refusals.specs.Refusals.{first}
-use Rattle.sectors.specs.Asked.{askedOf}
-use Rattle.sectors.proofs.asked.asked.Statement.{statement}
-use Rattle.sectors.proofs.asked.asked.Tie as tie
+use Rattle.sector_table.specs.Asked.{askedOf}
+use Rattle.sector_table.proofs.asked.asked.Statement.{statement}
+use Rattle.sector_table.proofs.asked.asked.Tie as tie
 
 format-refusal-requires : tie.Need-format-refusal-requires
 format-refusal-requires c κs = search needs

@@ -1,12 +1,12 @@
--- `sectors::layout::layout_of` meets its contract: each range of numbers has one row of the code and a few of the table. Assumes nothing.
+-- `sector_table::layout::layout_of` meets its contract: each range of numbers has one row of the code and a few of the table. Assumes nothing.
 use mathlib.Core.Path.{_≡_, ap, _∙_}
 use Prim.Native.Nat.{ℕ, _+_, _*_, _-_}
 use native.Mathlib.Omega.{arith}
 use borrow.Author.Needs.{needs}
-use Rattle.sectors.specs.Layout.{row, sectors, layoutOf}
-use Rattle.sectors.proofs.Rows.{upper-row, visible-row, lower-row}
-use Rattle.sectors.proofs.layout.layout_of.Statement.{statement}
-use Rattle.sectors.proofs.layout.layout_of.Tie as tie
+use Rattle.sector_table.specs.Layout.{row, sectors, layoutOf}
+use Rattle.sector_table.proofs.Rows.{upper-row, visible-row, lower-row}
+use Rattle.sector_table.proofs.layout.layout_of.Statement.{statement}
+use Rattle.sector_table.proofs.layout.layout_of.Tie as tie
 
 id-of-requires : tie.Need-id-of-requires
 id-of-requires c κs = search needs

@@ -1,7 +1,7 @@
 // Where the twelve sectors lie in a line.
 ghost use mathlib.Core.Path.{_≡_};
 ghost use Prim.Native.Nat.{_≤_};
-ghost use Rattle.sectors.specs.Layout.{layoutOf, bytesOf, Sound};
+ghost use Rattle.sector_table.specs.Layout.{layoutOf, bytesOf, Sound};
 
 // A sector of a line: where it starts and how many bits it has in all, its ID and the bits of it, the bits of its
 // data, and how many pixels of which width these are. The data of DOC are 2,291 bytes, and no pixels.

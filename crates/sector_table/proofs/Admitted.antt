@@ -7,7 +7,7 @@ use borrow.Author.Tests.{le-ltb}
 use Rattle.refusals.specs.Refusals.{first, when, shortOf, outsideOf}
 use Rattle.refusals.proofs.Words.{first-none, none-first, none-second, when-false, enough, Inside, inside, within}
 use Rattle.formats.specs.Formats.{lineBytes, formatRefusal}
-use Rattle.sectors.specs.Asked.{askedOf, lineRefusal}
+use Rattle.sector_table.specs.Asked.{askedOf, lineRefusal}
 
 -- the number is one that the call serves
 pub served : (f lo hi n : ℕ) → askedOf f lo hi n ≡ 0 → Inside lo hi n

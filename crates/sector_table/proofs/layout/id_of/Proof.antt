@@ -1,11 +1,11 @@
--- `sectors::layout::id_of` meets its contract: in an arm the number is known, and the table computes. Assumes nothing.
+-- `sector_table::layout::id_of` meets its contract: in an arm the number is known, and the table computes. Assumes nothing.
 use mathlib.Core.Path.{_≡_, refl}
 use Prim.Native.Nat.{_≤_}
 use native.Mathlib.Omega.{arith}
-use Rattle.sectors.specs.Layout.{sectors, layoutOf}
-use Rattle.sectors.proofs.Rows.{past}
-use Rattle.sectors.proofs.layout.id_of.Statement.{statement}
-use Rattle.sectors.proofs.layout.id_of.Tie as tie
+use Rattle.sector_table.specs.Layout.{sectors, layoutOf}
+use Rattle.sector_table.proofs.Rows.{past}
+use Rattle.sector_table.proofs.layout.id_of.Statement.{statement}
+use Rattle.sector_table.proofs.layout.id_of.Tie as tie
 
 returns : tie.Need-returns
 unfolding layoutOf sectors

@@ -2,8 +2,8 @@
 use Prim.Native.Nat.{ℕ, _+_, _*_, _≤_}
 use native.Mathlib.Omega.{arith}
 use Rattle.formats.specs.Formats.{lineBytes}
-use Rattle.sectors.specs.declared.layout.Layout.{Layout}
-use Rattle.sectors.specs.Layout.{Sound}
+use Rattle.sector_table.specs.declared.layout.Layout.{Layout}
+use Rattle.sector_table.specs.Layout.{Sound}
 
 -- a sector's end lies in the buffer
 pub ends : (l : Layout) (n : ℕ) → Sound l → lineBytes ≤ n → l .start + l .bits ≤ 8 * n

@@ -5,7 +5,7 @@ use Prim.Native.Nat.{ℕ, zero, suc, _+_, _*_, _-_, _≤_, _<_}
 use native.Mathlib.Omega.{arith}
 use lib.Dec.{eqb}
 use borrow.Author.Tests.{eqb-true, eqb-false}
-use Rattle.sectors.specs.Layout.{row, sectors, layoutOf}
+use Rattle.sector_table.specs.Layout.{row, sectors, layoutOf}
 
 -- a number that is not the least is beyond it
 pub past : {n : ℕ} (lo : ℕ) → lo ≤ n → (n ≡ lo → ⊥) → lo + 1 ≤ n

@@ -1,0 +1,4 @@
+pub mod Admitted
+pub mod Table
+pub mod Rows
+pub mod Bounds
