@@ -11,11 +11,13 @@
  * - Buffers lent to one call must not overlap, and one that is written must not be read or written by anybody else meanwhile.
  * - Every call is safe from any thread on buffers of its own: the library has no memory of its own, keeps nothing between
  *   calls and takes no lock. Two calls at once may read the same buffer. What a caller keeps (a reader's record, a register,
- *   an assembly's record, a report) belongs to one recording, and one thread at a time hands it on.
+ *   an assembly's record, a report, a desk) belongs to one recording, and one thread at a time hands it on. Where feeder,
+ *   preview and capture have threads of their own, one lock stands around the desk's record and each call on it, and none
+ *   around the bytes of a slot.
  * - `refused`, or the number that comes back alone, is HANSOBRIK_OK or a refusal number. "Refused: FORMAT, STATE." in the
  *   comment of a call says that it gives HANSOBRIK_REFUSED_FORMAT or HANSOBRIK_REFUSED_STATE and no other, tested in this
  *   order. A refused call changes no buffer; its answer has 0 in every other field, but the reader's record, a register, an
- *   assembly's record and a report come back as they were handed in, of two reports the first.
+ *   assembly's record, a report and a desk come back as they were handed in, of two reports the first.
  * - Bytes of a buffer behind a call's result are kept.
  * - Format 3 is format 1 from a card that presets its check register with sixteen ones: in each sector the first 16 bits are
  *   inverted before the remainder is taken. Nothing else differs, so lines of either card are found in both formats, but no
@@ -23,10 +25,10 @@
  *   REMAINDER.
  * - Numbers have the width that is declared: C cuts a wider one without a word, so compile with -Wconversion.
  *
- * Widths: the reader's record, an assembly's and a report have fields of fixed width and 24, 8 and 488 bytes without a gap on
- * every machine, so one that was stored is read on another machine of the same byte order. Counts and lengths are size_t and
- * follow the machine. The proofs are over sizes of 64 bits and the archive is made for such machines: where size_t has 4 bytes
- * this header does not compile.
+ * Widths: the reader's record, an assembly's, a report and a desk have fields of fixed width and 24, 8, 488 and 72 bytes
+ * without a gap on every machine, so one that was stored is read on another machine of the same byte order. Counts and lengths
+ * are size_t and follow the machine. The proofs are over sizes of 64 bits and the archive is made for such machines: where
+ * size_t has 4 bytes this header does not compile.
  *
  * C11 or C++11, or later. Link with libhansobrik.a (`pkg-config --cflags --libs hansobrik` where it is installed). The library
  * takes no memory; of the C library it needs memcpy and memset alone.
@@ -48,32 +50,37 @@ _Static_assert(sizeof(size_t) == 8, "hansobrik: the library is made for machines
 /* ---- the version of this header ---- */
 
 #define HANSOBRIK_VERSION_MAJOR 0
-#define HANSOBRIK_VERSION_MINOR 7
+#define HANSOBRIK_VERSION_MINOR 8
 #define HANSOBRIK_VERSION_PATCH 0
 #define HANSOBRIK_VERSION (HANSOBRIK_VERSION_MAJOR * 10000 + HANSOBRIK_VERSION_MINOR * 100 + HANSOBRIK_VERSION_PATCH)
-#define HANSOBRIK_VERSION_TEXT "0.7.0"
+#define HANSOBRIK_VERSION_TEXT "0.8.0"
 
 /* ---- refusal numbers, in the order in which they are tested ---- */
 
 enum {
-    HANSOBRIK_OK = 0,                   /* the call was served */
-    HANSOBRIK_REFUSED_FORMAT = 1,       /* the format is none of 1, 2, 3 */
-    HANSOBRIK_REFUSED_SETTING = 13,     /* the setting of a reader is above 6 */
-    HANSOBRIK_REFUSED_STATE = 12,       /* the reader's record, the register, the marks or a report are impossible */
-    HANSOBRIK_REFUSED_FULL = 15,        /* the report would have over 100,000 lines */
-    HANSOBRIK_REFUSED_NUMBER = 4,       /* a sector, channel or block number that the call does not serve;
-                                           calibration-2 in format 2 */
-    HANSOBRIK_REFUSED_RANGE = 10,       /* level, grid point, number size or decimal places out of range;
-                                           a pixel over its width */
-    HANSOBRIK_REFUSED_MAGNITUDE = 11,   /* a magnitude over 2^31-1 (n 4) or 2^47-1 (n 6), on writing */
-    HANSOBRIK_REFUSED_SHORT_INPUT = 2,  /* line or block buffer, number bytes, sector data or pixels fewer than needed */
-    HANSOBRIK_REFUSED_SHORT_OUTPUT = 3, /* the output is shorter than the result */
-    HANSOBRIK_REFUSED_REMAINDER = 5,    /* the sector's remainder is not 0 */
-    HANSOBRIK_REFUSED_ID = 6,           /* the remainder is 0, the ID not the sector's own */
-    HANSOBRIK_REFUSED_FIELD = 7,        /* BCD digit over 9, date part out of range, bad segment or repeat bytes */
-    HANSOBRIK_REFUSED_REVISION = 14,    /* the segment is of another revision of the tables than the assembly */
-    HANSOBRIK_REFUSED_SEGMENT = 8,      /* the segment differs from the stored one */
-    HANSOBRIK_REFUSED_UNFINISHED = 9    /* an entry of a block without all 25 segments */
+    HANSOBRIK_OK = 0,                    /* the call was served */
+    HANSOBRIK_REFUSED_FORMAT = 1,        /* the format is none of 1, 2, 3 */
+    HANSOBRIK_REFUSED_SETTING = 13,      /* the setting of a reader is above 6 */
+    HANSOBRIK_REFUSED_OUT_OF_RANGE = 19, /* a desk's slots are not 2 to 8, or a slot is not below their count */
+    HANSOBRIK_REFUSED_STATE = 12,        /* the reader's record, the register, the marks, a report or a desk are impossible */
+    HANSOBRIK_REFUSED_FULL = 15,         /* the report would have over 100,000 lines */
+    HANSOBRIK_REFUSED_NUMBER = 4,        /* a sector, channel or block number that the call does not serve;
+                                            calibration-2 in format 2 */
+    HANSOBRIK_REFUSED_RANGE = 10,        /* level, grid point, number size or decimal places out of range;
+                                            a pixel over its width */
+    HANSOBRIK_REFUSED_MAGNITUDE = 11,    /* a magnitude over 2^31-1 (n 4) or 2^47-1 (n 6), on writing */
+    HANSOBRIK_REFUSED_SHORT_INPUT = 2,   /* line or block buffer, area, number bytes, sector data or pixels fewer than needed */
+    HANSOBRIK_REFUSED_NO_SERIAL = 18,    /* the serial numbers of a desk are used up */
+    HANSOBRIK_REFUSED_NO_SLOT = 16,      /* no slot of a desk is free */
+    HANSOBRIK_REFUSED_NO_HOLD = 17,      /* the consumer does not hold the slot under that serial, or the slot is not being
+                                            filled under it */
+    HANSOBRIK_REFUSED_SHORT_OUTPUT = 3,  /* the output is shorter than the result */
+    HANSOBRIK_REFUSED_REMAINDER = 5,     /* the sector's remainder is not 0 */
+    HANSOBRIK_REFUSED_ID = 6,            /* the remainder is 0, the ID not the sector's own */
+    HANSOBRIK_REFUSED_FIELD = 7,         /* BCD digit over 9, date part out of range, bad segment or repeat bytes */
+    HANSOBRIK_REFUSED_REVISION = 14,     /* the segment is of another revision of the tables than the assembly */
+    HANSOBRIK_REFUSED_SEGMENT = 8,       /* the segment differs from the stored one */
+    HANSOBRIK_REFUSED_UNFINISHED = 9     /* an entry of a block without all 25 segments */
 };
 
 /* ---- sizes ---- */
@@ -111,6 +118,13 @@ enum {
     HANSOBRIK_SEGMENTS = 25,
     HANSOBRIK_CHANNELS = 4,            /* IR1 to IR4 */
     HANSOBRIK_REPORT_LINES = 100000,   /* the most lines of a report */
+    HANSOBRIK_LEAST_SLOTS = 2,         /* a desk has so many slots of LINE_BYTES each, */
+    HANSOBRIK_MOST_SLOTS = 8,          /* up to so many */
+    HANSOBRIK_FREE = 0,                /* what a slot is used for, */
+    HANSOBRIK_FILLING = 1,
+    HANSOBRIK_HELD = 2,
+    HANSOBRIK_PREVIEW = 1,             /* and the two who hold a line: as a consumer one of them, as holders their sum */
+    HANSOBRIK_CAPTURE = 2,
     HANSOBRIK_ALL_MARKS = 0x1FFFFFF,   /* the marks of a finished block */
     HANSOBRIK_FIFTEEN_ONES = 0x7FFF    /* the scrambling register before the first information bit */
 };
@@ -181,6 +195,21 @@ typedef struct {
     hansobrik_sector_tally sectors[12];   /* sector n at n - 1 */
     hansobrik_channel_tally channels[4];  /* IR1 to IR4, channel n at n - 1 */
 } hansobrik_pass_report;
+
+/* One slot of a desk. Of a FREE one serial and holders say nothing, of a FILLING one its holders. */
+typedef struct {
+    uint32_t serial;       /* of the line in it */
+    uint16_t used;         /* FREE, FILLING or HELD. No other mark is possible */
+    uint16_t holders;      /* of a HELD one: PREVIEW, CAPTURE or their sum. No other mark is possible */
+} hansobrik_desk_slot;
+
+/* Who has which slot of an area: `count` slots of LINE_BYTES each, slot i from byte i * LINE_BYTES on. A caller may look at all
+ * of it. Slots from the count on do not exist: nobody looks at them, and they come back as they stand. */
+typedef struct {
+    uint32_t count;        /* LEAST_SLOTS to MOST_SLOTS */
+    uint32_t last;         /* the serial number given last; 0 before the first */
+    hansobrik_desk_slot slots[8];
+} hansobrik_line_desk;
 
 typedef struct {
     uint8_t refused;
@@ -322,6 +351,24 @@ typedef struct {
     uint8_t refused;
     hansobrik_pass_report report; /* for the next call */
 } hansobrik_report_answer;
+
+typedef struct {
+    uint8_t refused;
+    hansobrik_line_desk desk; /* for the next call */
+} hansobrik_desk_answer;
+
+typedef struct {
+    uint8_t refused;
+    uint32_t serial;          /* under which the slot is filled */
+    size_t slot;              /* the lowest that was free */
+    hansobrik_line_desk desk; /* for the next call */
+} hansobrik_taken_answer;
+
+typedef struct {
+    uint8_t refused;
+    size_t from;              /* the first byte of the line in the area, */
+    size_t to;                /* and the first one behind it */
+} hansobrik_seen_answer;
 
 /* ---- the version of the archive ---- */
 
@@ -534,6 +581,53 @@ hansobrik_report_answer hansobrik_with_line(uint8_t format, hansobrik_pass_repor
  * marked present. The first is tested for STATE, then the second; then both for FULL together. Refused: STATE, FULL. */
 hansobrik_report_answer hansobrik_together(hansobrik_pass_report first, hansobrik_pass_report second);
 
+/* ---- the desk: one area of several slots for a feeder and two who read ---- */
+
+/* A desk shares an area of 2 to 8 slots, one line each, between the feeder, which fills them, and preview and capture, which
+ * read. No call is lent the area: the desk is the record of who may touch which slot, and `area` is how many bytes there are.
+ *
+ *     hansobrik_line_desk desk = hansobrik_fresh_desk(4).desk;
+ *     hansobrik_taken_answer t = hansobrik_take(desk, sizeof area);    the feeder: a free slot, and the next serial
+ *     desk = t.desk;
+ *     (hansobrik_read, with the slot's LINE_BYTES lent as its line, until it says complete)
+ *     desk = hansobrik_publish(desk, sizeof area, t.slot, t.serial).desk;
+ *     hansobrik_seen_answer s = hansobrik_seen(desk, sizeof area, HANSOBRIK_PREVIEW, t.slot, t.serial);
+ *     show(area + s.from);
+ *     desk = hansobrik_release(desk, sizeof area, HANSOBRIK_PREVIEW, t.slot, t.serial).desk;
+ *
+ * Who may touch the bytes of a slot: FREE nobody; FILLING the feeder alone; HELD each of its holders, to read, until its own
+ * release. What one of them releases changes nothing that the other may read. The slot is FREE again when both have released
+ * it, and nothing else frees one: a slot that was taken stays FILLING until its line is published, where need be with the rest
+ * of a later piece. The rest of a piece behind a complete line is offered to the reader with another slot lent; where none is
+ * free, NO_SLOT, the feeder offers nothing until one is.
+ *
+ * A desk is impossible, STATE, where a slot below its count is FILLING or HELD under serial 0, or under one above `last`, or
+ * under that of another such slot; where one is HELD without a holder; or where a mark is none of those above. No call makes an
+ * impossible desk of a possible one. An accepted call changes the slot that it is about, a take also `last`, and nothing else.
+ */
+
+/* An empty desk of so many slots: no serial is given yet, every slot is FREE. A refused count stands in the desk all the same,
+ * which no call serves. Refused: OUT_OF_RANGE. */
+hansobrik_desk_answer hansobrik_fresh_desk(uint32_t count);
+
+/* The lowest FREE slot for the next line, FILLING from now on under the next serial number: 1, 2, .. up to 2^32-1, none twice.
+ * Needs in area: the desk's count times LINE_BYTES. Refused: OUT_OF_RANGE, STATE, SHORT_INPUT, NO_SERIAL, NO_SLOT. */
+hansobrik_taken_answer hansobrik_take(hansobrik_line_desk desk, size_t area);
+
+/* The slot holds its whole line: from now on it is HELD, by preview and capture both. NO_HOLD where it is not FILLING under
+ * this serial. Needs in area: the desk's count times LINE_BYTES. Refused: OUT_OF_RANGE, STATE, SHORT_INPUT, NO_HOLD. */
+hansobrik_desk_answer hansobrik_publish(hansobrik_line_desk desk, size_t area, size_t slot, uint32_t serial);
+
+/* The consumer, PREVIEW or CAPTURE, holds the slot no longer; where nobody else does it is FREE, with 0 in every field. NO_HOLD
+ * where it does not hold the slot under this serial, as any other number never does: each hold is released once. Needs in area:
+ * the desk's count times LINE_BYTES. Refused: OUT_OF_RANGE, STATE, SHORT_INPUT, NO_HOLD. */
+hansobrik_desk_answer hansobrik_release(hansobrik_line_desk desk, size_t area, uint8_t consumer, size_t slot, uint32_t serial);
+
+/* The part of the area that a holder may read, LINE_BYTES from byte `from` on. It changes nothing, so that no desk comes back.
+ * NO_HOLD as for a release. Needs in area: the desk's count times LINE_BYTES.
+ * Refused: OUT_OF_RANGE, STATE, SHORT_INPUT, NO_HOLD. */
+hansobrik_seen_answer hansobrik_seen(hansobrik_line_desk desk, size_t area, uint8_t consumer, size_t slot, uint32_t serial);
+
 /* ---- helpers, which stand here whole: plain C, tested and not proved ---- */
 
 /* A refusal number in words. */
@@ -544,7 +638,9 @@ hansobrik_refusal_words(uint8_t number)
     case HANSOBRIK_OK: return "the call was served";
     case HANSOBRIK_REFUSED_FORMAT: return "the format is none of 1, 2, 3";
     case HANSOBRIK_REFUSED_SETTING: return "the setting of a reader is above 6";
-    case HANSOBRIK_REFUSED_STATE: return "the reader's record, the register, the marks or a report are impossible";
+    case HANSOBRIK_REFUSED_OUT_OF_RANGE: return "a desk's slots are not 2 to 8, or a slot is not below their count";
+    case HANSOBRIK_REFUSED_STATE:
+        return "the reader's record, the register, the marks, a report or a desk are impossible";
     case HANSOBRIK_REFUSED_FULL: return "the report would have over 100,000 lines";
     case HANSOBRIK_REFUSED_NUMBER:
         return "a sector, channel or block number that the call does not serve; calibration-2 in format 2";
@@ -552,7 +648,11 @@ hansobrik_refusal_words(uint8_t number)
         return "level, grid point, number size or decimal places out of range; a pixel over its width";
     case HANSOBRIK_REFUSED_MAGNITUDE: return "a magnitude over 2^31-1 (n 4) or 2^47-1 (n 6), on writing";
     case HANSOBRIK_REFUSED_SHORT_INPUT:
-        return "line or block buffer, number bytes, sector data or pixels fewer than needed";
+        return "line or block buffer, area, number bytes, sector data or pixels fewer than needed";
+    case HANSOBRIK_REFUSED_NO_SERIAL: return "the serial numbers of a desk are used up";
+    case HANSOBRIK_REFUSED_NO_SLOT: return "no slot of a desk is free";
+    case HANSOBRIK_REFUSED_NO_HOLD:
+        return "the consumer does not hold the slot under that serial, or the slot is not being filled under it";
     case HANSOBRIK_REFUSED_SHORT_OUTPUT: return "the output is shorter than the result";
     case HANSOBRIK_REFUSED_REMAINDER: return "the sector's remainder is not 0";
     case HANSOBRIK_REFUSED_ID: return "the remainder is 0, the ID not the sector's own";

@@ -32,6 +32,7 @@ enum {
     INTEGER_FIELD, BCD_FIELD, REAL_FIELD, F64_FIELD,
     FRESH_ASSEMBLY, ADD_SEGMENT, REVISION, MAPPING, ALBEDO, ALBEDO_F64, TEMPERATURE, TEMPERATURE_F64, ELEMENTS,
     EMPTY_REPORT, WITH_LINE, TOGETHER,
+    FRESH_DESK, TAKE, PUBLISH, RELEASE, SEEN,
     SPOIL
 };
 
@@ -251,6 +252,22 @@ static hansobrik_pass_report report(size_t i)
     return r;
 }
 
+/* The numbers of a desk: its count and last serial, three of each slot. */
+enum { OF_SLOT = 3, OF_DESK = 2 + OF_SLOT * HANSOBRIK_MOST_SLOTS };
+
+static hansobrik_line_desk desk(void)
+{
+    hansobrik_line_desk d;
+    d.count = u32(0);
+    d.last = u32(1);
+    for (size_t s = 0, i = 2; s < HANSOBRIK_MOST_SLOTS; s++, i += OF_SLOT) {
+        d.slots[s].serial = u32(i);
+        d.slots[s].used = u16(i + 1);
+        d.slots[s].holders = u16(i + 2);
+    }
+    return d;
+}
+
 /* ---- what it answers: every field of each kind of answer ---- */
 
 static void say(uint64_t field)
@@ -312,6 +329,17 @@ static void say_report(hansobrik_pass_report r)
         say(r.channels[c].least);
         say(r.channels[c].largest);
         say(r.channels[c].present);
+    }
+}
+
+static void say_desk(hansobrik_line_desk d)
+{
+    say(d.count);
+    say(d.last);
+    for (size_t s = 0; s < HANSOBRIK_MOST_SLOTS; s++) {
+        say(d.slots[s].serial);
+        say(d.slots[s].used);
+        say(d.slots[s].holders);
     }
 }
 
@@ -479,6 +507,27 @@ static void say_report_answer(hansobrik_report_answer a)
     say_report(a.report);
 }
 
+static void say_desk_answer(hansobrik_desk_answer a)
+{
+    say(a.refused);
+    say_desk(a.desk);
+}
+
+static void say_taken(hansobrik_taken_answer a)
+{
+    say(a.refused);
+    say(a.serial);
+    say(a.slot);
+    say_desk(a.desk);
+}
+
+static void say_seen(hansobrik_seen_answer a)
+{
+    say(a.refused);
+    say(a.from);
+    say(a.to);
+}
+
 /* No call of the library: turns over a bit of the byte that lies numbers[1] bytes behind the start of buffer numbers[0], or
  * before it, as a wrong call would. The last buffer is lent to be read only. The harness asks for it to see that harm is
  * seen. */
@@ -550,6 +599,18 @@ static void call(uint64_t which, size_t buffer_count)
     case EMPTY_REPORT: say_report(hansobrik_empty_report()); break;
     case WITH_LINE: say_report_answer(hansobrik_with_line(u8(0), report(1), seen(0), count(0))); break;
     case TOGETHER: say_report_answer(hansobrik_together(report(0), report(OF_REPORT))); break;
+
+    case FRESH_DESK: say_desk_answer(hansobrik_fresh_desk(u32(0))); break;
+    case TAKE: say_taken(hansobrik_take(desk(), size(OF_DESK))); break;
+    case PUBLISH:
+        say_desk_answer(hansobrik_publish(desk(), size(OF_DESK), size(OF_DESK + 1), u32(OF_DESK + 2)));
+        break;
+    case RELEASE:
+        say_desk_answer(hansobrik_release(desk(), size(OF_DESK), u8(OF_DESK + 1), size(OF_DESK + 2), u32(OF_DESK + 3)));
+        break;
+    case SEEN:
+        say_seen(hansobrik_seen(desk(), size(OF_DESK), u8(OF_DESK + 1), size(OF_DESK + 2), u32(OF_DESK + 3)));
+        break;
 
     case SPOIL: spoil(buffer_count); break;
     default: stop("no such call");

@@ -36,15 +36,15 @@ static void version(void)
     expect(strcmp(text, HANSOBRIK_VERSION_TEXT) == 0, "the version's text is the archive's number", number);
 }
 
-/* 0 to 15 have words of their own, and all the others the same ones. */
+/* 0 to 19 have words of their own, and all the others the same ones. */
 static void words(void)
 {
     const char *unknown = hansobrik_refusal_words(255);
     for (unsigned number = 0; number <= 255; number++) {
         const char *said = hansobrik_refusal_words((uint8_t)number);
         expect(said[0] != '\0', "a refusal has words", number);
-        expect((strcmp(said, unknown) == 0) == (number > 15), "0 and the fifteen refusals have words, no other has", number);
-        for (unsigned other = 0; other < number && number <= 15; other++)
+        expect((strcmp(said, unknown) == 0) == (number > 19), "0 and the nineteen refusals have words, no other has", number);
+        for (unsigned other = 0; other < number && number <= 19; other++)
             expect(strcmp(said, hansobrik_refusal_words((uint8_t)other)) != 0, "two refusals have other words", number);
     }
 }
@@ -235,6 +235,48 @@ static void report_sizes(uint8_t f)
           HANSOBRIK_REFUSED_FULL, "together", f);
 }
 
+/* A desk has the slots that the header names, and each call needs LINE_BYTES for each; marks and consumers are the header's. */
+static void desk_sizes(void)
+{
+    enum { IN = HANSOBRIK_REFUSED_SHORT_INPUT, OUT = HANSOBRIK_REFUSED_OUT_OF_RANGE };
+    expect(hansobrik_fresh_desk(HANSOBRIK_LEAST_SLOTS - 1).refused == OUT, "a desk needs its least slots", OUT);
+    expect(hansobrik_fresh_desk(HANSOBRIK_MOST_SLOTS + 1).refused == OUT, "a desk has its most slots at most", OUT);
+    for (unsigned count = HANSOBRIK_LEAST_SLOTS; count <= HANSOBRIK_MOST_SLOTS; count++) {
+        hansobrik_desk_answer fresh = hansobrik_fresh_desk(count);
+        hansobrik_line_desk desk = fresh.desk;
+        size_t n = (size_t)count * HANSOBRIK_LINE_BYTES;
+        expect(fresh.refused == HANSOBRIK_OK, "a desk of so many slots is served", count);
+        expect(sizeof desk.slots / sizeof desk.slots[0] == HANSOBRIK_MOST_SLOTS, "a desk has room for every slot", count);
+        for (unsigned slot = 0; slot < count; slot++) {
+            expect(desk.slots[slot].used == HANSOBRIK_FREE, "a slot is free", slot);
+            hansobrik_taken_answer taken = hansobrik_take(desk, n);
+            needs(taken.refused, hansobrik_take(desk, n - 1).refused, IN, "take", count);
+            expect(taken.slot == slot && taken.serial == slot + 1, "the lowest slot, the next serial", slot);
+            desk = taken.desk;
+            expect(desk.slots[slot].used == HANSOBRIK_FILLING, "a slot is filling", slot);
+        }
+        expect(hansobrik_take(desk, n).refused == HANSOBRIK_REFUSED_NO_SLOT, "no slot is left", count);
+        size_t last = count - 1;
+        hansobrik_desk_answer held = hansobrik_publish(desk, n, last, count);
+        needs(held.refused, hansobrik_publish(desk, n - 1, last, count).refused, IN, "publish", count);
+        desk = held.desk;
+        expect(desk.slots[last].used == HANSOBRIK_HELD, "a slot is held", count);
+        expect(desk.slots[last].holders == HANSOBRIK_PREVIEW + HANSOBRIK_CAPTURE, "by both", count);
+        hansobrik_seen_answer seen = hansobrik_seen(desk, n, HANSOBRIK_CAPTURE, last, count);
+        needs(seen.refused, hansobrik_seen(desk, n - 1, HANSOBRIK_CAPTURE, last, count).refused, IN, "seen", count);
+        expect(seen.from == last * HANSOBRIK_LINE_BYTES && seen.to == n, "its part of the area", count);
+        hansobrik_desk_answer one = hansobrik_release(desk, n, HANSOBRIK_PREVIEW, last, count);
+        needs(one.refused, hansobrik_release(desk, n - 1, HANSOBRIK_PREVIEW, last, count).refused, IN, "release", count);
+        expect(one.desk.slots[last].holders == HANSOBRIK_CAPTURE, "capture holds it still", count);
+        expect(hansobrik_release(one.desk, n, HANSOBRIK_PREVIEW, last, count).refused == HANSOBRIK_REFUSED_NO_HOLD,
+               "a hold is released once", count);
+        hansobrik_desk_answer both = hansobrik_release(one.desk, n, HANSOBRIK_CAPTURE, last, count);
+        expect(both.refused == HANSOBRIK_OK && both.desk.slots[last].used == HANSOBRIK_FREE, "it is free again", count);
+        both.desk.last = UINT32_MAX;
+        expect(hansobrik_take(both.desk, n).refused == HANSOBRIK_REFUSED_NO_SERIAL, "serials are used up", count);
+    }
+}
+
 /* Lines that differ, written one after the other, and all of it some bits late, so that no line begins or ends at a byte. Each
  * tail, the last 64 bits of SYNC, has so many wrong bits. */
 static void make_recording(uint8_t format, unsigned late, uint8_t wrong)
@@ -350,6 +392,7 @@ int main(void)
     words();
     names();
     formats();
+    desk_sizes();
     for (uint8_t format = HANSOBRIK_S_VISSR; format <= HANSOBRIK_S_VISSR_ONES; format++) {
         sector_sizes(format);
         block_sizes(format);

@@ -330,7 +330,7 @@ static inline hansobrik_report_answer unlike(uint8_t number, hansobrik_pass_repo
     return a;
 }
 
-#if FAULT == 0 /* none, but search, test of the tables, check and reports are made here: by the right rules the library's own */
+#if FAULT == 0 /* none, but search, tables, check, reports and desk are made here: by the right rules the library's own */
 static hansobrik_report_answer right_line(REPORTING) { return by_parts(false, f, r, p, c); }
 #define hansobrik_with_line right_line
 static hansobrik_report_answer right_sum(REPORTS) { return by_sum(r, q); }
@@ -1256,4 +1256,192 @@ static hansobrik_pass_report wrong(void)
     return r;
 }
 #define hansobrik_empty_report wrong
+#endif
+
+/* Wrong desks, from 129 on, and the right one in number 0: the five calls are made here whole, and IF(number) is the one thing
+ * that is wrong with that number. */
+#if FAULT == 0 || FAULT > 128
+#define IF(number) (FAULT == (number))
+#define DESKING hansobrik_line_desk d, size_t area
+#define PUBLISHING DESKING, size_t i, uint32_t n
+#define HOLDING DESKING, uint8_t c, size_t i, uint32_t n
+
+static inline bool is_busy(hansobrik_desk_slot s)
+{
+    if (IF(158) /* the mark 3 is let through */ && s.used == 3)
+        return false;
+    return s.used != HANSOBRIK_FREE || (IF(161) /* a free slot's old serial counts */ && s.serial != 0);
+}
+static inline bool wrong_slot(hansobrik_desk_slot s, uint32_t last)
+{
+    if (s.used > HANSOBRIK_HELD && !(IF(158) && s.used == 3))
+        return true;
+    if (s.used == HANSOBRIK_HELD && s.holders == 0 && !IF(157) /* held without a holder is let through */)
+        return true;
+    if (s.used == HANSOBRIK_HELD && s.holders > 3 && !IF(159) /* other marks of holders are let through */)
+        return true;
+    if (IF(160) /* holders of a filling slot are tested */ && s.used == HANSOBRIK_FILLING && s.holders > 3)
+        return true;
+    if (is_busy(s) && s.serial == 0 && !IF(154) /* serial 0 is let through */)
+        return true;
+    return is_busy(s) && s.serial > last && !(IF(155) /* the next serial is let through */ && s.serial == last + 1);
+}
+static inline bool wrong_desk(hansobrik_line_desk d)
+{
+    size_t own = d.count > 8 || IF(153) /* slots past the count are looked at */ ? 8 : d.count;
+    for (size_t i = 0; i < own; i++) {
+        if (wrong_slot(d.slots[i], d.last))
+            return true;
+        for (size_t j = 0; j < i; j++)
+            if (is_busy(d.slots[i]) && is_busy(d.slots[j]) && d.slots[i].serial == d.slots[j].serial &&
+                !(IF(156) /* equal serials of a filling and a held slot are let through */ &&
+                  d.slots[i].used != d.slots[j].used))
+                return true;
+    }
+    return false;
+}
+
+/* 19, 12, 2; a take has no slot, and asks for 0. */
+static inline uint8_t not_served(DESKING, size_t i)
+{
+    uint32_t count = IF(152) /* a count by its low byte */ ? d.count & 255 : d.count;
+    uint32_t fewest = IF(151) /* one slot is served */ ? 1 : HANSOBRIK_LEAST_SLOTS;
+    size_t below = IF(149) /* a slot below 8, not below the count */ ? 8 : count;
+    bool out = count < fewest || count > HANSOBRIK_MOST_SLOTS || i >= below;
+    size_t needed = (size_t)count * HANSOBRIK_LINE_BYTES;
+    needed -= IF(164) /* an area that is a byte short is served */;
+    needed += IF(165) /* one that is just enough is refused */;
+    if (IF(146) /* 12 before 19 */ && wrong_desk(d))
+        return 12;
+    if (out)
+        return 19;
+    if (IF(147) /* 2 before 12 */ && area < needed)
+        return 2;
+    if (wrong_desk(d))
+        return 12;
+    return area < needed ? 2 : 0;
+}
+
+/* The desk of an answer. */
+static inline hansobrik_line_desk given(uint8_t number, hansobrik_line_desk before, hansobrik_line_desk after)
+{
+    if (number && IF(163) /* a refused desk is zeroed */)
+        memset(&before, 0, sizeof before);
+    for (size_t i = after.count; IF(162) /* slots past the count are zeroed */ && i < 8; i++)
+        memset(&after.slots[i], 0, sizeof after.slots[i]);
+    return number ? before : after;
+}
+static inline hansobrik_desk_answer desk_answer(uint8_t number, hansobrik_line_desk before, hansobrik_line_desk after)
+{
+    hansobrik_desk_answer a;
+    memset(&a, 0, sizeof a);
+    a.refused = number;
+    a.desk = given(number, before, after);
+    return a;
+}
+static inline hansobrik_desk_slot slot_of(uint32_t n, uint16_t used, uint16_t holders)
+{
+    hansobrik_desk_slot s;
+    s.serial = n;
+    s.used = used;
+    s.holders = holders;
+    return s;
+}
+
+static hansobrik_desk_answer desk_fresh(uint32_t count)
+{
+    hansobrik_desk_answer a;
+    memset(&a, 0, sizeof a);
+    a.refused = count < HANSOBRIK_LEAST_SLOTS || count > HANSOBRIK_MOST_SLOTS ? 19 : 0;
+    a.desk.count = a.refused && IF(167) /* a count that is refused is not in the desk */ ? 0 : count;
+    a.desk.last = !a.refused && IF(166) /* a serial is given already */;
+    return a;
+}
+static hansobrik_taken_answer desk_take(DESKING)
+{
+    hansobrik_taken_answer a;
+    hansobrik_line_desk after = d;
+    size_t free = 8;
+    memset(&a, 0, sizeof a);
+    a.refused = not_served(d, area, 0);
+    for (size_t i = 0; !a.refused && i < d.count; i++)
+        if (d.slots[i].used == HANSOBRIK_FREE && (free == 8 || IF(129) /* the highest free slot */))
+            free = i;
+    if (!a.refused && IF(131) /* 16 before 18 */ && free == 8)
+        a.refused = 16;
+    if (!a.refused && d.last == UINT32_MAX && !IF(132) /* serials begin anew with 0 */)
+        a.refused = 18;
+    if (!a.refused && free == 8)
+        a.refused = 16;
+    if (!a.refused) {
+        a.slot = free;
+        a.serial = d.last + 1;
+        after.last = IF(130) /* the serial is not advanced */ ? d.last : a.serial;
+        after.slots[free] = slot_of(a.serial, HANSOBRIK_FILLING, IF(133) /* holders stay */ ? d.slots[free].holders : 0);
+    }
+    a.desk = given(a.refused, d, after);
+    return a;
+}
+static hansobrik_desk_answer desk_publish(PUBLISHING)
+{
+    hansobrik_line_desk after = d;
+    i = IF(150) /* a slot by its low byte */ ? i & 255 : i;
+    uint8_t number = not_served(d, area, i);
+    bool filling = !number && (d.slots[i].used == HANSOBRIK_FILLING ||
+                               (IF(135) /* a held slot again */ && d.slots[i].used == HANSOBRIK_HELD));
+    if (!number && !(filling && (d.slots[i].serial == n || IF(136) /* under any serial */)))
+        number = 17;
+    if (!number)
+        after.slots[i] = slot_of(d.slots[i].serial, HANSOBRIK_HELD, IF(134) /* preview alone holds it */ ? 1 : 3);
+    return desk_answer(number, d, after);
+}
+
+/* The refusals of a release and a look. */
+static inline uint8_t no_hold(HOLDING)
+{
+    uint8_t number = not_served(d, area, i);
+    if (number != 0 && !(IF(148) /* 17 before 2 */ && number == 2))
+        return number;
+    bool held = d.slots[i].used == HANSOBRIK_HELD;
+    bool by = (c == 1 || c == 2) && (d.slots[i].holders & c) != 0;
+    return held && by && d.slots[i].serial == n ? number : 17;
+}
+static hansobrik_desk_answer desk_release(HOLDING)
+{
+    hansobrik_line_desk after = d;
+    i = IF(150) ? i & 255 : i;
+    c = IF(140) /* 3 is capture */ && c == 3 ? 2 : IF(141) /* 0 is preview */ && c == 0 ? 1 : c;
+    uint8_t number = no_hold(d, area, c, i, n);
+    if (IF(138) /* under any serial */ && number == 17)
+        number = no_hold(d, area, c, i, d.slots[i].serial);
+    if (IF(139) /* a slot that is being filled */ && number == 17 && d.slots[i].used == HANSOBRIK_FILLING &&
+        d.slots[i].serial == n)
+        number = 0;
+    if (!number) {
+        hansobrik_desk_slot *s = &after.slots[i];
+        s->holders = IF(137) /* both holds */ || s->used == HANSOBRIK_FILLING ? 0 : (uint16_t)(s->holders & ~c);
+        if (s->holders == 0)
+            *s = slot_of(IF(142) /* the serial stays */ ? s->serial : 0, HANSOBRIK_FREE, 0);
+    }
+    return desk_answer(number, d, after);
+}
+static hansobrik_seen_answer desk_seen(HOLDING)
+{
+    hansobrik_seen_answer a;
+    memset(&a, 0, sizeof a);
+    i = IF(150) ? i & 255 : i;
+    a.refused = no_hold(d, area, c, i, n);
+    if (IF(144) /* after its own release, while the other holds it */ && a.refused == 17)
+        a.refused = no_hold(d, area, (uint8_t)(3 - c), i, n);
+    if (!a.refused || IF(145) /* a refused look has a part */) {
+        a.from = i * HANSOBRIK_LINE_BYTES;
+        a.to = a.from + HANSOBRIK_LINE_BYTES - (IF(143) /* one byte less */);
+    }
+    return a;
+}
+#define hansobrik_fresh_desk desk_fresh
+#define hansobrik_take desk_take
+#define hansobrik_publish desk_publish
+#define hansobrik_release desk_release
+#define hansobrik_seen desk_seen
 #endif

@@ -1,4 +1,4 @@
-/* The eleven calls of hansobrik.h whose answers or records cross otherwise on this processor than on x86-64, for which the
+/* The sixteen calls of hansobrik.h whose answers or records cross otherwise on this processor than on x86-64, for which the
  * library's modules are lowered. `far_` are the modules' own functions under another name; the other calls are the same on both
  * and need nothing here: an assembly's record, of eight bytes, goes as one word on both. */
 #include "hansobrik.h"
@@ -9,6 +9,7 @@ void *far_fresh(hansobrik_state *out);
 void *far_elements(hansobrik_orbit_answer *out, uint8_t format, hansobrik_assembly assembly, const uint8_t *block,
                    size_t block_count);
 void *far_empty_report(hansobrik_pass_report *out);
+void *far_fresh_desk(hansobrik_desk_answer *out, uint32_t count);
 
 /* near.ll */
 void near_read(hansobrik_read_answer *out, uint8_t format, uint8_t setting, const hansobrik_state *state, const uint8_t *piece,
@@ -23,6 +24,12 @@ void near_temperature_f64(hansobrik_level_float_answer *out, uint8_t format, han
 void near_with_line(hansobrik_report_answer *out, uint8_t format, const hansobrik_pass_report *report, const uint8_t *line,
                     size_t line_count);
 void near_together(hansobrik_report_answer *out, const hansobrik_pass_report *first, const hansobrik_pass_report *second);
+void near_take(hansobrik_taken_answer *out, const hansobrik_line_desk *desk, size_t area);
+void near_publish(hansobrik_desk_answer *out, const hansobrik_line_desk *desk, size_t area, size_t slot, uint32_t serial);
+void near_release(hansobrik_desk_answer *out, const hansobrik_line_desk *desk, size_t area, uint8_t consumer, size_t slot,
+                  uint32_t serial);
+void near_seen(hansobrik_seen_answer *out, const hansobrik_line_desk *desk, size_t area, uint8_t consumer, size_t slot,
+               uint32_t serial);
 
 hansobrik_format_answer hansobrik_format(uint8_t format) {
     hansobrik_format_answer out;
@@ -93,5 +100,35 @@ hansobrik_report_answer hansobrik_with_line(uint8_t format, hansobrik_pass_repor
 hansobrik_report_answer hansobrik_together(hansobrik_pass_report first, hansobrik_pass_report second) {
     hansobrik_report_answer out;
     near_together(&out, &first, &second);
+    return out;
+}
+
+hansobrik_desk_answer hansobrik_fresh_desk(uint32_t count) {
+    hansobrik_desk_answer out;
+    far_fresh_desk(&out, count);
+    return out;
+}
+
+hansobrik_taken_answer hansobrik_take(hansobrik_line_desk desk, size_t area) {
+    hansobrik_taken_answer out;
+    near_take(&out, &desk, area);
+    return out;
+}
+
+hansobrik_desk_answer hansobrik_publish(hansobrik_line_desk desk, size_t area, size_t slot, uint32_t serial) {
+    hansobrik_desk_answer out;
+    near_publish(&out, &desk, area, slot, serial);
+    return out;
+}
+
+hansobrik_desk_answer hansobrik_release(hansobrik_line_desk desk, size_t area, uint8_t consumer, size_t slot, uint32_t serial) {
+    hansobrik_desk_answer out;
+    near_release(&out, &desk, area, consumer, slot, serial);
+    return out;
+}
+
+hansobrik_seen_answer hansobrik_seen(hansobrik_line_desk desk, size_t area, uint8_t consumer, size_t slot, uint32_t serial) {
+    hansobrik_seen_answer out;
+    near_seen(&out, &desk, area, consumer, slot, serial);
     return out;
 }

@@ -36,6 +36,11 @@ fn refuse(what: &[u8], word: &[u8], usage: &[u8]) {
     io::write_all(STDERR_FILENO, usage);
 }
 
+// A word is missing: the usage text says which there are.
+pub fn refuse_missing(what: &[u8], usage: &[u8]) {
+    refuse(what, b"", usage);
+}
+
 // The word at a place is refused, with the usage text.
 pub fn refuse_word(what: &[u8], place: usize, usage: &[u8]) {
     let mut text = io::buffer();

@@ -38,7 +38,7 @@ unfolding Each layoutOf sectors
 upper-count channel low high = among (λ n. upperOf n .count ≡ 2291) 1 3 channel (refl, (refl, (refl, tt))) low (omega arith)
 
 -- a call that joins, on any buffer: each pixel is joined of the line in its first 44,356 bytes
-joined-pixel : (f channel : ℕ) (buf out : List ℕ) → joinedAnswer f buf channel (length out) ≡ 0 → (i : ℕ) → i < 2291
+pub joined-pixel : (f channel : ℕ) (buf out : List ℕ) → joinedAnswer f buf channel (length out) ≡ 0 → (i : ℕ) → i < 2291
     → getD (joinedLeft f buf channel out) i 0 ≡ joinedPixel (getD (pixelsOf (upperOf channel) (lineIn buf)) i 0) (getD (pixelsOf (lowerOf channel) (lineIn buf)) i 0)
 unfolding joinedLeft joinedAnswer
 joined-pixel f channel buf out e i h =

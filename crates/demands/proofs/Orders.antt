@@ -29,6 +29,9 @@ use Rattle.sector_frame.specs.Written.{overOf}
 use Rattle.sector_writer.specs.Calls.{inputShort, putDataAnswer, putPixelsAnswer}
 use Rattle.report_record.specs.Possible.{recordRefusal}
 use Rattle.report.specs.Calls.{fullRefusal, withLineRefusal, togetherRefusal}
+use Rattle.desk_refusals.specs.Asked.{countRefusal}
+use Rattle.desk.specs.Calls.{freshAnswer}
+use Rattle.histories.proofs.Refused.{take-tests, publish-tests, release-tests}
 use Rattle.numbers.specs.Integers.{readIntegerRefusal}
 use Rattle.numbers.specs.Decimals.{someOver9, digitsIn, decimalOf, readBcdRefusal}
 use Rattle.numbers.specs.Reals.{noReal, formRefusal, readRealRefusal}
@@ -149,7 +152,7 @@ added-when f a line n block =
 -- ---- the list
 
 pub orders : Orders
-unfolding firstOf shortOf outsideOf withLineRefusal togetherRefusal recordRefusal fullRefusal stepRefusal putSyncRefusal fillerRefusal integerFieldRefusal bcdFieldRefusal realFieldRefusal readRefusal writeLineRefusal acceptedAnswer lineRefusal askedOf answerOf answersRefusal valuesRefusal dataAnswer pixelsAnswer joinedAnswer stripRefusal inputShort putDataAnswer readIntegerRefusal readBcdRefusal readRealRefusal formRefusal putRealRefusal putPixelsAnswer lineNumbersRefusal dateRefusal docPart subCommutationRefusal segmentRefusal marksRefusal blockRefusal unfinishedRefusal entryRefusal gridRefusal levelRefusal
+unfolding firstOf shortOf outsideOf withLineRefusal togetherRefusal freshAnswer countRefusal recordRefusal fullRefusal stepRefusal putSyncRefusal fillerRefusal integerFieldRefusal bcdFieldRefusal realFieldRefusal readRefusal writeLineRefusal acceptedAnswer lineRefusal askedOf answerOf answersRefusal valuesRefusal dataAnswer pixelsAnswer joinedAnswer stripRefusal inputShort putDataAnswer readIntegerRefusal readBcdRefusal readRealRefusal formRefusal putRealRefusal putPixelsAnswer lineNumbersRefusal dateRefusal docPart subCommutationRefusal segmentRefusal marksRefusal blockRefusal unfinishedRefusal entryRefusal gridRefusal levelRefusal
 orders = record {
   format-of = λ f. record { by-table = refl; given = simp (refused-when, first-zero) refl };
   step = λ register. record { by-table = refl; given = sym (first-zero _) };
@@ -167,6 +170,10 @@ orders = record {
   put-data = λ f long n given. record { by-table = refl; given = simp (refused-when, first-assoc, first-zero) refl };
   with-line = λ f r given. record { by-table = refl; given = simp (refused-when, first-zero) refl };
   together = λ a b. record { by-table = refl; given = simp (first-assoc, first-zero) refl };
+  fresh-desk = λ count. record { by-table = refl; given = simp (first-zero) refl };
+  take = λ d area. record { by-table = refl; given = take-tests d area };
+  publish = λ d area i n. record { by-table = refl; given = publish-tests d area i n };
+  release = λ d area c i n. record { by-table = refl; given = release-tests d area c i n };
   read-integer = λ n given. record { by-table = refl; given = simp first-zero refl };
   read-bcd = λ n bytes. record { by-table = refl; given = simp first-zero refl };
   read-real = λ n m given. record { by-table = refl; given = simp first-zero refl };

@@ -16,6 +16,10 @@ use Rattle.sector_writer.specs.Calls.{putDataLeft, putPixelsLeft}
 use Rattle.writer.specs.Wire.{writeLineLeft}
 use Rattle.report.specs.declared.Reported.{Reported}
 use Rattle.report.specs.Calls.{withLineAnswer, togetherAnswer}
+use Rattle.desk.specs.declared.Taken.{Taken}
+use Rattle.desk.specs.declared.Changed.{Changed}
+use Rattle.desk.specs.declared.Part.{Part}
+use Rattle.desk.specs.Calls.{takeAnswer, publishAnswer, releaseAnswer, seenAnswer}
 use Rattle.number_writer.specs.Written.{putRealLeft}
 use Rattle.segments.specs.Assembly.{addedNumber, assemblyAfter}
 use Rattle.segments.specs.declared.Added.{Added}
@@ -43,7 +47,7 @@ assembly-stays f a line number block (Refused k) x c refused =
     (c .1 ∙ block-refused f a line number block k (sym (add-segment-is f a line number block (Refused k) (c .0))), refl)
 
 pub refusals : Refusals
-unfolding registerLeft putSyncLeft readLeft dataLeft pixelsLeft joinedLeft stripLeft putDataLeft putPixelsLeft writeLineLeft putRealLeft withLineAnswer togetherAnswer
+unfolding registerLeft putSyncLeft readLeft dataLeft pixelsLeft joinedLeft stripLeft putDataLeft putPixelsLeft writeLineLeft putRealLeft withLineAnswer togetherAnswer takeAnswer publishAnswer releaseAnswer seenAnswer
 refusals = record {
   stepped = λ register r c h. stays _ _ register _ (r .next .bits) (c .0 .0) (c .1) h;
   step = λ register r x c h. stays _ _ register _ x (c .0 .0) (c .1) h;
@@ -63,6 +67,17 @@ refusals = record {
   put-pixels = λ lo hi f line sector ps r x hw hx c h. stays-bytes _ _ _ line x hw hx (c .0) (c .1) h;
   with-line = λ f report line r e h. stays _ _ report _ (r .report) (ap (λ (x : Reported). x .refused) e) (ap (λ (x : Reported). x .report) e) h;
   together = λ a b r e h. stays _ _ a _ (r .report) (ap (λ (x : Reported). x .refused) e) (ap (λ (x : Reported). x .report) e) h;
+  take = λ d area r e h. (
+    stays _ _ d _ (r .desk) (ap (λ (x : Taken). x .refused) e) (ap (λ (x : Taken). x .desk) e) h,
+    stays _ _ 0 _ (r .slot) (ap (λ (x : Taken). x .refused) e) (ap (λ (x : Taken). x .slot) e) h,
+    stays _ _ 0 _ (r .serial) (ap (λ (x : Taken). x .refused) e) (ap (λ (x : Taken). x .serial) e) h,
+  );
+  publish = λ d area i n r e h. stays _ _ d _ (r .desk) (ap (λ (x : Changed). x .refused) e) (ap (λ (x : Changed). x .desk) e) h;
+  release = λ d area c i n r e h. stays _ _ d _ (r .desk) (ap (λ (x : Changed). x .refused) e) (ap (λ (x : Changed). x .desk) e) h;
+  seen = λ d area c i n r e h. (
+    stays _ _ 0 _ (r .from) (ap (λ (x : Part). x .refused) e) (ap (λ (x : Part). x .from) e) h,
+    stays _ _ 0 _ (r .to) (ap (λ (x : Part). x .refused) e) (ap (λ (x : Part). x .to) e) h,
+  );
   put-real = λ negative magnitude n m out r x c h. stays _ _ out _ x (c .0 .0) (c .1) h;
   add-segment = assembly-stays;
 }

@@ -29,6 +29,11 @@ use Rattle.sector_writer.specs.Calls.{putDataAnswer, putPixelsAnswer}
 use Rattle.report_record.specs.declared.Report.{Report}
 use Rattle.report_record.specs.Possible.{mostLines, possibleReport}
 use Rattle.report.specs.Calls.{withLineRefusal, togetherRefusal}
+use Rattle.desk_record.specs.declared.Desk.{Desk}
+use Rattle.desk_record.specs.Slots.{slotOf, fillingAs, heldBy}
+use Rattle.desk_refusals.specs.Asked.{takeRefusal, publishRefusal, releaseRefusal}
+use Rattle.desk.specs.Calls.{freshAnswer}
+use Rattle.histories.specs.Tests.{takeTests, slotTests}
 use Rattle.numbers.specs.Integers.{readIntegerRefusal}
 use Rattle.numbers.specs.Decimals.{someOver9, digitsIn, readBcdRefusal}
 use Rattle.numbers.specs.Reals.{noReal, magnitudeBits, readRealRefusal}
@@ -167,6 +172,11 @@ pub record Orders : Type 0 where
       → Gives (withLineRefusal f r given) (formatTest f ∷ reportTest r ∷ fullTest (r .lines) 1 ∷ (2, ltb given lineBytes) ∷ [])
   -- of the first, and then of the second
   pub together : (a b : Report) → Gives (togetherRefusal a b) (reportTest a ∷ reportTest b ∷ fullTest (a .lines) (b .lines) ∷ [])
+  pub fresh-desk : (count : ℕ) → Gives (freshAnswer count .refused) ((19, outside 2 8 count) ∷ [])
+  pub take : (d : Desk) (area : ℕ) → Gives (takeRefusal d area) (takeTests d area)
+  pub publish : (d : Desk) (area i n : ℕ) → Gives (publishRefusal d area i n) (slotTests d area i (fillingAs n (slotOf d i)))
+  -- release and `seen`
+  pub release : (d : Desk) (area c i n : ℕ) → Gives (releaseRefusal d area c i n) (slotTests d area i (heldBy c n (slotOf d i)))
   pub read-integer : (n given : ℕ) → Gives (readIntegerRefusal n given) ((10, outside 1 4 n) ∷ (2, ltb given n) ∷ [])
   pub read-bcd : (n : ℕ) (bytes : List ℕ) → Gives (readBcdRefusal n bytes) ((10, outside 1 6 n) ∷ (2, ltb (length bytes) n) ∷ (7, someOver9 (digitsIn n bytes)) ∷ [])
   -- and in f64

@@ -16,6 +16,11 @@ use Rattle.writer.specs.Wire.{writtenNumber}
 use Rattle.report_record.specs.declared.Report.{Report}
 use Rattle.report.specs.declared.Reported.{Reported}
 use Rattle.report.specs.Calls.{withLineAnswer, togetherAnswer}
+use Rattle.desk_record.specs.declared.Desk.{Desk}
+use Rattle.desk.specs.declared.Taken.{Taken}
+use Rattle.desk.specs.declared.Changed.{Changed}
+use Rattle.desk.specs.declared.Part.{Part}
+use Rattle.desk.specs.Calls.{takeAnswer, publishAnswer, releaseAnswer, seenAnswer}
 use Rattle.number_writer.specs.Written.{putNumber}
 use Rattle.blocks.specs.declared.assembly.Assembly.{Assembly}
 use Rattle.segments.specs.Assembly.{addedNumber, assemblyAfter}
@@ -59,6 +64,11 @@ pub record Refusals : Type 0 where
   pub put-pixels : (lo hi f : ℕ) (line : List ℕ) (sector : ℕ) (ps : List ℕ) → KeepsBytes (PutPixels lo hi f line sector ps) line
   pub with-line : (f : ℕ) (report : Report) (line : List ℕ) (r : Reported) → r ≡ withLineAnswer f report line → Refuses (r .refused) → r .report ≡ report
   pub together : (a b : Report) (r : Reported) → r ≡ togetherAnswer a b → Refuses (r .refused) → r .report ≡ a
+  pub take : (d : Desk) (area : ℕ) (r : Taken) → r ≡ takeAnswer d area → Refuses (r .refused) → (r .desk ≡ d) × (r .slot ≡ 0) × (r .serial ≡ 0)
+  pub publish : (d : Desk) (area i n : ℕ) (r : Changed) → r ≡ publishAnswer d area i n → Refuses (r .refused) → r .desk ≡ d
+  pub release : (d : Desk) (area c i n : ℕ) (r : Changed) → r ≡ releaseAnswer d area c i n → Refuses (r .refused) → r .desk ≡ d
+  -- and no part of the area is given
+  pub seen : (d : Desk) (area c i n : ℕ) (r : Part) → r ≡ seenAnswer d area c i n → Refuses (r .refused) → (r .from ≡ 0) × (r .to ≡ 0)
   pub put-real : (negative : Bool) (magnitude n m : ℕ) (out : List ℕ) → Keeps putNumber (PutReal negative magnitude n m out) out
   pub add-segment : (f : ℕ) (a : Assembly) (line : List ℕ) (number : ℕ) (block : List ℕ) (r : Added) (x : List ℕ)
       → AddSegment f a line number block r x → Refuses (addedNumber r) → (x ≡ block) × (assemblyAfter a r ≡ a)

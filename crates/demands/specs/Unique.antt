@@ -17,6 +17,11 @@ use Rattle.report_record.specs.declared.Report.{Report}
 use Rattle.report_record.specs.Report.{emptyReport}
 use Rattle.report.specs.declared.Reported.{Reported}
 use Rattle.report.specs.Calls.{withLineAnswer, togetherAnswer}
+use Rattle.desk_record.specs.declared.Desk.{Desk}
+use Rattle.desk.specs.declared.Taken.{Taken}
+use Rattle.desk.specs.declared.Changed.{Changed}
+use Rattle.desk.specs.declared.Part.{Part}
+use Rattle.desk.specs.Calls.{freshAnswer, takeAnswer, publishAnswer, releaseAnswer, seenAnswer}
 use Rattle.numbers.specs.Integers.{ReadIntegerOk}
 use Rattle.numbers.specs.Decimals.{ReadBcdOk}
 use Rattle.numbers.specs.Reals.{ReadRealOk}
@@ -73,6 +78,12 @@ pub record Unique : Type 0 where
   pub empty : One (λ (r : Report). r ≡ emptyReport)
   pub with-line : (f : ℕ) (report : Report) (line : List ℕ) → One (λ (r : Reported). r ≡ withLineAnswer f report line)
   pub together : (a b : Report) → One (λ (r : Reported). r ≡ togetherAnswer a b)
+  -- the line desk
+  pub fresh-desk : (count : ℕ) → One (λ (r : Changed). r ≡ freshAnswer count)
+  pub take : (d : Desk) (area : ℕ) → One (λ (r : Taken). r ≡ takeAnswer d area)
+  pub publish : (d : Desk) (area i n : ℕ) → One (λ (r : Changed). r ≡ publishAnswer d area i n)
+  pub release : (d : Desk) (area c i n : ℕ) → One (λ (r : Changed). r ≡ releaseAnswer d area c i n)
+  pub seen : (d : Desk) (area c i n : ℕ) → One (λ (r : Part). r ≡ seenAnswer d area c i n)
   -- numbers
   pub read-integer : (n : ℕ) (bytes : List ℕ) → One (ReadIntegerOk n bytes)
   pub read-bcd : (n : ℕ) (bytes : List ℕ) → One (ReadBcdOk n bytes)

@@ -17,29 +17,6 @@ and at the end, where all of the recording was read
   total N
 ";
 
-// 1 for the answer of a sector that is accepted.
-fn good(answer: u8) -> u64
-    ensures { λ r. ⌜ r ≤ 1 ⌝ }
-{
-    if answer == 0 { 1 } else { 0 }
-}
-
-// How many of the twelve sectors are accepted, each divided once.
-fn goods(format: u8, line: &[u8]) -> u64 {
-    let twelve = sectors::check::answers(format, line);
-    if twelve.refused != 0 {
-        return 0;
-    }
-    let answers = twelve.answers;
-    let mut n: u64 = 0;
-    let mut i: usize = 0;
-    while i < 12 {
-        n = std::num::wrapping_add_u64(n, good(answers[i]));
-        i += 1;
-    }
-    n
-}
-
 // The filler bits set in a sector.
 fn filler(format: u8, line: &[u8], sector: u8) -> u64
     ensures { λ r. ⌜ r ≤ 2048 ⌝ }
@@ -67,7 +44,7 @@ fn row(format: u8, number: u64, line: &[u8]) -> text::Row {
         .words(b"line ")
         .number(number)
         .words(b" good ")
-        .number(goods(format, line))
+        .number(looks::goods(format, line))
         .words(b" filler ")
         .number(fillers)
 }

@@ -12,6 +12,7 @@ ghost use Rattle.player.specs.Places.{Places, started};
 use libc::STDIN_FILENO;
 use reader_line::Answer;
 use reader_record::State;
+use words::Asked;
 use words::Takes;
 
 // The bytes of one piece.
@@ -239,15 +240,22 @@ pub fn opened(usage: &[u8], piece: &mut [u8; PIECE]) -> Player
     if !command::goes_on(asked, usage) {
         return none();
     }
+    named(asked, asked.first, usage, piece)
+}
+
+// The recording that the word at a place names, of words that are served; standard input where there is none.
+pub fn named(asked: Asked, place: usize, usage: &[u8], piece: &mut [u8; PIECE]) -> Player
+    ensures { λ r. ⌜ Places r ⌝ }
+{
     let setting = command::setting_at(asked.setting);
     if reader_refusals::LARGEST_SETTING < setting {
         command::refuse_word(b"not a setting, 0 to 6: ", asked.setting, usage);
         return none();
     }
-    if asked.first == 0 {
+    if place == 0 {
         return standard(asked.format, setting, piece);
     }
-    of_word(asked.first, asked.format, setting, piece)
+    of_word(place, asked.format, setting, piece)
 }
 
 // Whether the recording was read to its own end. One that stops inside a line is told.

@@ -55,6 +55,29 @@ unfolding readGiven
 brought false was t s = refl
 brought true was t s = refl
 
+-- a call that is not refused, with one buffer on both sides
+module _ (f setting : ℕ) where
+  pub record Sides (complete : Bool) (s : State) (r : ReaderState) (p buf : List ℕ) : Type 0 where
+    pub taken : ℕ
+    pub after : State
+    pub is : readAnswer f setting s p buf ≡ answerBy complete taken after
+    pub took : readOf f setting r p buf .taken ≡ taken
+    pub brings : readOf f setting r p buf .state ≡ keptOf after
+
+  pub sides : (complete : Bool) (s : State) (r : ReaderState) (p buf : List ℕ) → r ≡ keptOf s
+      → readOf f setting r p buf .refused ≡ 0 → readOf f setting r p buf .complete ≡ complete → Sides complete s r p buf
+  sides complete s r p buf i none c =
+      by (came complete (keptOf s) (readAnswer f setting s p buf) (refused-some f setting s p buf)
+      (ap (λ (y : ReadAnswer). y .refused) (sym same) ∙ none) (ap (λ (y : ReadAnswer). y .complete) (sym same) ∙ c))
+    where
+      same : readOf f setting r p buf ≡ readGiven (keptOf s) (readAnswer f setting s p buf)
+      same = ap (λ (x : ReaderState). readOf f setting x p buf) i ∙ read-through f setting s p buf
+
+      by : Came complete (readAnswer f setting s p buf) → Sides complete s r p buf
+      by h =
+          let e = same ∙ ap (readGiven (keptOf s)) (h .is) ∙ brought complete (keptOf s) (h .taken) (h .after) in
+          record { taken = h .taken; after = h .after; is = h .is; took = ap (λ (y : ReadAnswer). y .taken) e; brings = ap (λ (y : ReadAnswer). y .state) e }
+
 module _ (f setting : ℕ) (lend : ℕ → List ℕ → List ℕ) where
   -- the two callers lend the same buffer
   pub lent-same : (k : ℕ) (s : State) (r : ReaderState) (buf : List ℕ) → r ≡ keptOf s → lentAt lend k r buf ≡ lentFor lend k s buf
@@ -84,11 +107,13 @@ module _ (f setting : ℕ) (lend : ℕ → List ℕ → List ℕ) where
   pub both : (complete : Bool) (k : ℕ) (s : State) (r : ReaderState) (p buf : List ℕ) → r ≡ keptOf s
       → readOf f setting r p (lentAt lend k r buf) .refused ≡ 0 → readOf f setting r p (lentAt lend k r buf) .complete ≡ complete → Both complete k s r p buf
   both complete k s r p buf i none c =
-      let a = given-same k s r p buf i in
-      by (came complete (keptOf s) (readAnswer f setting s p (lentFor lend k s buf)) (refused-some f setting s p (lentFor lend k s buf))
-      (ap (λ (y : ReadAnswer). y .refused) (sym a) ∙ none) (ap (λ (y : ReadAnswer). y .complete) (sym a) ∙ c))
-    where
-      by : Came complete (readAnswer f setting s p (lentFor lend k s buf)) → Both complete k s r p buf
-      by h =
-          let e = given-by complete k s r p buf (h .taken) (h .after) i (h .is) in
-          record { taken = h .taken; after = h .after; is = h .is; took = ap (λ (y : ReadAnswer). y .taken) e; brings = ap (λ (y : ReadAnswer). y .state) e }
+      let lent = lent-same k s r buf i in
+      let a : Sides f setting complete s r p (lentFor lend k s buf) =
+      sides f setting complete s r p (lentFor lend k s buf) i (ap (λ (x : List ℕ). readOf f setting r p x .refused) (sym lent) ∙ none) (ap (λ (x : List ℕ). readOf f setting r p x .complete) (sym lent) ∙ c) in
+      record {
+        taken = a .taken;
+        after = a .after;
+        is = a .is;
+        took = ap (λ (x : List ℕ). readOf f setting r p x .taken) lent ∙ a .took;
+        brings = ap (λ (x : List ℕ). readOf f setting r p x .state) lent ∙ a .brings;
+      }

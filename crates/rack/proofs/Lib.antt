@@ -12,3 +12,5 @@ pub mod Grid
 pub mod Cards
 pub mod Reports
 pub mod ReportRun
+pub mod Desks
+pub mod ClassRun

@@ -2,7 +2,7 @@
 use mathlib.Core.Bool.{Bool, true, false, cond, _&&_}
 use mathlib.Core.List.{List}
 use mathlib.Core.Path.{_≡_, refl, ap, ap₂, _∙_}
-use Prim.Native.Nat.{ℕ, zero, suc, _<_}
+use Prim.Native.Nat.{ℕ, zero, suc, _+_, _*_, _<_}
 use native.Mathlib.Nat.{zero-lt-suc}
 use lib.ListN.{length, replicate}
 use Rattle.refusals.specs.Refusals.{kept, answered}
@@ -62,11 +62,18 @@ use Rattle.report.specs.declared.Reported.{Reported}
 use Rattle.report.specs.Calls.{withLineAnswer, togetherAnswer}
 use Rattle.rack_report.specs.declared.PassReport.{PassReport}
 use Rattle.rack_report.specs.declared.ReportAnswer.{ReportAnswer}
+use Rattle.formats.specs.Formats.{lineBytes}
+use Rattle.desk_record.specs.Desks.{lowestOf}
+use Rattle.desk.specs.declared.Changed.{Changed}
+use Rattle.desk_refusals.specs.Asked.{takeRefusal, releaseRefusal}
+use Rattle.desk.specs.Calls.{takeAnswer, publishAnswer, releaseAnswer, seenAnswer}
+use Rattle.rack_desk.specs.declared.LineDesk.{LineDesk}
+use Rattle.rack_desk.specs.LineDesk.{deskHanded, deskLeft, changedGiven, takeOf, publishOf, releaseOf, seenOf}
 use Rattle.rack_report.specs.PassReport.{reportHanded, reportGiven, marked, markRefusal, answerGiven, withLineOf, togetherOf}
 use Rattle.rack_document.specs.Documentation.{nameGiven, scanGiven, scannerGiven, linesGiven, dateGiven, segmentGiven}
 use Rattle.rack_blocks.specs.Assembly.{addGiven, revisionGiven}
 use Rattle.rack_entries.specs.Entry.{levelGiven, levelF64Given, gridGiven, orbitGiven}
-use Rattle.rack.specs.Zeros.{FormatAlone, CountAlone, TwelveAlone, StripAlone, IntegerAlone, BcdAlone, RealAlone, FloatAlone, NameAlone, LinesAlone, DateAlone, SegmentAlone, RevisionAlone, LevelAlone, LevelFloatAlone, GridAlone, OrbitAlone, StepBack, ReadBack, AddBack, Zeros, ReportBack}
+use Rattle.rack.specs.Zeros.{FormatAlone, CountAlone, TwelveAlone, StripAlone, IntegerAlone, BcdAlone, RealAlone, FloatAlone, NameAlone, LinesAlone, DateAlone, SegmentAlone, RevisionAlone, LevelAlone, LevelFloatAlone, GridAlone, OrbitAlone, StepBack, ReadBack, AddBack, Zeros, ReportBack, DeskBack, TakenBack, SeenAlone}
 use Rattle.rack.proofs.Records.{read-refused}
 
 format-row : (a : formats.FormatAnswer) → FormatAlone (formatGiven a)
@@ -209,6 +216,35 @@ together-row : (a b : PassReport) → ReportBack a (togetherOf a b)
 unfolding togetherOf
 together-row a b = marked-or (marked a && marked b) a 12 _ (given-back a (togetherAnswer (reportHanded a) (reportHanded b)))
 
+take-row : (d : LineDesk) (area : ℕ) → TakenBack d (takeOf d area)
+unfolding takeOf takeAnswer
+take-row d area h =
+    let k = takeRefusal (deskHanded d) area in
+    let a = takeAnswer (deskHanded d) area in
+    λ i. record {
+      refused = k;
+      serial = kept-some k 0 (suc (deskHanded d .last)) h i;
+      slot = kept-some k 0 (lowestOf (deskHanded d)) h i;
+      desk = kept-some k d (deskLeft d (a .desk) (a .slot)) h i;
+    }
+
+changed-row : (was : LineDesk) (i : ℕ) (a : Changed) → DeskBack was (changedGiven was i a)
+changed-row was i a h = λ j. record { refused = a .refused; desk = kept-some (a .refused) was (deskLeft was (a .desk) i) h j }
+
+publish-row : (d : LineDesk) (area i n : ℕ) → DeskBack d (publishOf d area i n)
+unfolding publishOf
+publish-row d area i n = changed-row d i (publishAnswer (deskHanded d) area i n)
+
+release-row : (d : LineDesk) (area c i n : ℕ) → DeskBack d (releaseOf d area c i n)
+unfolding releaseOf
+release-row d area c i n = changed-row d i (releaseAnswer (deskHanded d) area c i n)
+
+seen-row : (d : LineDesk) (area c i n : ℕ) → SeenAlone (seenOf d area c i n)
+unfolding seenOf seenAnswer
+seen-row d area c i n h =
+    let k = releaseRefusal (deskHanded d) area c i n in
+    λ j. record { refused = k; from = kept-some k 0 (i * lineBytes) h j; to = kept-some k 0 (i * lineBytes + lineBytes) h j }
+
 pub zeros : Zeros
 zeros = record {
   format-of = format-row;
@@ -221,6 +257,10 @@ zeros = record {
   strip = strip-row;
   with-line = with-line-row;
   together = together-row;
+  take = take-row;
+  publish = publish-row;
+  release = release-row;
+  seen = seen-row;
   integer = integer-row;
   bcd = bcd-row;
   real = real-row;

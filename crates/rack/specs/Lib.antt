@@ -4,3 +4,4 @@ pub mod Zeros
 pub mod UniqueAcross
 pub mod Assembled
 pub mod ReportRun
+pub mod ClassRun

@@ -51,6 +51,11 @@ use Rattle.report_record.specs.Report.{emptyReport}
 use Rattle.rack_report.specs.declared.PassReport.{PassReport}
 use Rattle.rack_report.specs.declared.ReportAnswer.{ReportAnswer}
 use Rattle.rack_report.specs.PassReport.{reportGiven, withLineOf, togetherOf}
+use Rattle.rack_desk.specs.declared.LineDesk.{LineDesk}
+use Rattle.rack_desk.specs.declared.DeskAnswer.{DeskAnswer}
+use Rattle.rack_desk.specs.declared.TakenAnswer.{TakenAnswer}
+use Rattle.rack_desk.specs.declared.SeenAnswer.{SeenAnswer}
+use Rattle.rack_desk.specs.LineDesk.{freshOf, takeOf, publishOf, releaseOf, seenOf}
 use Rattle.rack_document.specs.declared.NameAnswer.{NameAnswer}
 use Rattle.rack_document.specs.declared.LinesAnswer.{LinesAnswer}
 use Rattle.rack_document.specs.declared.DateAnswer.{DateAnswer}
@@ -94,6 +99,11 @@ pub record UniqueAcross : Type 0 where
   pub empty-report : One (λ (r : PassReport). r ≡ reportGiven emptyReport)
   pub with-line : (f : ℕ) (report : PassReport) (line : List ℕ) → One (λ (r : ReportAnswer). r ≡ withLineOf f report line)
   pub together : (a b : PassReport) → One (λ (r : ReportAnswer). r ≡ togetherOf a b)
+  pub fresh-desk : (count : ℕ) → One (λ (r : DeskAnswer). r ≡ freshOf count)
+  pub take : (d : LineDesk) (area : ℕ) → One (λ (r : TakenAnswer). r ≡ takeOf d area)
+  pub publish : (d : LineDesk) (area i n : ℕ) → One (λ (r : DeskAnswer). r ≡ publishOf d area i n)
+  pub release : (d : LineDesk) (area c i n : ℕ) → One (λ (r : DeskAnswer). r ≡ releaseOf d area c i n)
+  pub seen : (d : LineDesk) (area c i n : ℕ) → One (λ (r : SeenAnswer). r ≡ seenOf d area c i n)
   -- numbers
   pub read-integer : (n : ℕ) (bytes : List ℕ) → One (λ (r : IntegerAnswer). r ≡ integerGiven (readIntegerAnswer n bytes))
   pub read-bcd : (n : ℕ) (bytes : List ℕ) → One (λ (r : BcdAnswer). r ≡ bcdGiven (readBcdAnswer n bytes))

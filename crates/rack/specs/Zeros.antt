@@ -49,6 +49,11 @@ use Rattle.rack_sector.specs.Sector.{twelveGiven, fillerGiven, stripGiven}
 use Rattle.rack_report.specs.declared.PassReport.{PassReport}
 use Rattle.rack_report.specs.declared.ReportAnswer.{ReportAnswer}
 use Rattle.rack_report.specs.PassReport.{withLineOf, togetherOf}
+use Rattle.rack_desk.specs.declared.LineDesk.{LineDesk}
+use Rattle.rack_desk.specs.declared.DeskAnswer.{DeskAnswer}
+use Rattle.rack_desk.specs.declared.TakenAnswer.{TakenAnswer}
+use Rattle.rack_desk.specs.declared.SeenAnswer.{SeenAnswer}
+use Rattle.rack_desk.specs.LineDesk.{takeOf, publishOf, releaseOf, seenOf}
 use Rattle.rack_document.specs.declared.NameAnswer.{NameAnswer}
 use Rattle.rack_document.specs.declared.LinesAnswer.{LinesAnswer}
 use Rattle.rack_document.specs.declared.DateAnswer.{DateAnswer}
@@ -130,7 +135,7 @@ GridAlone a = Refuses (a .refused) → a ≡ record { refused = a .refused; line
 abbrev pub OrbitAlone : OrbitAnswer → Type 0
 OrbitAlone a = Refuses (a .refused) → a ≡ record { refused = a .refused; epoch = zeroFloat; axis = zeroFloat; eccentricity = zeroFloat; inclination = zeroFloat; node = zeroFloat; perigee = zeroFloat; anomaly = zeroFloat }
 
--- and what was handed in: the register, the reader's record, the record of an assembly, the report
+-- and what was handed in: the register, the reader's record, the record of an assembly, the report, the desk
 abbrev pub StepBack : ℕ → StepAnswer → Type 0
 StepBack register a = Refuses (a .refused) → a ≡ record { refused = a .refused; bit = 0; register = register }
 
@@ -142,6 +147,15 @@ AddBack was a = Refuses (a .refused) → a ≡ record { refused = a .refused; «
 
 abbrev pub ReportBack : PassReport → ReportAnswer → Type 0
 ReportBack was a = Refuses (a .refused) → a ≡ record { refused = a .refused; report = was }
+
+abbrev pub DeskBack : LineDesk → DeskAnswer → Type 0
+DeskBack was a = Refuses (a .refused) → a ≡ record { refused = a .refused; desk = was }
+
+abbrev pub TakenBack : LineDesk → TakenAnswer → Type 0
+TakenBack was a = Refuses (a .refused) → a ≡ record { refused = a .refused; serial = 0; slot = 0; desk = was }
+
+abbrev pub SeenAlone : SeenAnswer → Type 0
+SeenAlone a = Refuses (a .refused) → a ≡ record { refused = a .refused; from = 0; to = 0 }
 
 pub record Zeros : Type 0 where
   pub format-of : (a : formats.FormatAnswer) → FormatAlone (formatGiven a)
@@ -155,6 +169,10 @@ pub record Zeros : Type 0 where
   pub strip : (a : Stripped) → StripAlone (stripGiven a)
   pub with-line : (f : ℕ) (report : PassReport) (line : List ℕ) → ReportBack report (withLineOf f report line)
   pub together : (a b : PassReport) → ReportBack a (togetherOf a b)
+  pub take : (d : LineDesk) (area : ℕ) → TakenBack d (takeOf d area)
+  pub publish : (d : LineDesk) (area i n : ℕ) → DeskBack d (publishOf d area i n)
+  pub release : (d : LineDesk) (area c i n : ℕ) → DeskBack d (releaseOf d area c i n)
+  pub seen : (d : LineDesk) (area c i n : ℕ) → SeenAlone (seenOf d area c i n)
   pub integer : (a : Integer) → IntegerAlone (integerGiven a)
   pub bcd : (a : Bcd) → BcdAlone (bcdGiven a)
   pub real : (a : Real) → RealAlone (realGiven a)

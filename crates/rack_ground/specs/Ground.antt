@@ -12,9 +12,9 @@ use Rattle.rack_number.specs.Number.{countGiven}
 use Rattle.rack_ground.specs.declared.FormatAnswer.{FormatAnswer}
 use Rattle.rack_ground.specs.declared.StepAnswer.{StepAnswer}
 
--- the version of the library, 0.7.0, as one number: ten thousand times its first part, a hundred times its second, its third
+-- the version of the library, 0.8.0, as one number: ten thousand times its first part, a hundred times its second, its third
 abbrev pub version : ℕ
-version = 10000 * 0 + 100 * 7 + 0
+version = 10000 * 0 + 100 * 8 + 0
 
 unfoldable pub formatGiven : formats.FormatAnswer → FormatAnswer
 formatGiven a = record {

@@ -44,7 +44,7 @@ pub struct StepAnswer {
 pub extern "C" fn hansobrik_version() -> u32
     ensures { λ r. ⌜ r ≡ version ⌝ }
 {
-    700
+    800
 }
 
 // Inner. A format as it crosses the boundary.

@@ -49,3 +49,9 @@ exactly k (s ∷ before) after t some p q = by (when (s .1) (s .0)) (gives-other
         → (first a (firstOf (before ++ ((k, t) ∷ after))) ≡ k) ↔ ((first a (firstOf before) ≡ 0) × (t ≡ true))
     by zero other rest = rest
     by (suc a) other rest = ((λ e. absurd (other e)), (λ h. absurd (suc-ne-zero a (h .0))))
+
+-- NO TEST APPLIES exactly where the first does not, and none of the rest
+pub none-more : (k : ℕ) (t : Bool) (ts : List Test) → (firstOf ((suc k, t) ∷ ts) ≡ 0) ↔ ((t ≡ false) × (firstOf ts ≡ 0))
+unfolding firstOf first when
+none-more k true ts = ((λ e. absurd (suc-ne-zero k e)), (λ h. absurd (true≢false (h .0))))
+none-more k false ts = ((λ e. (refl, e)), (λ h. h .1))

@@ -10,7 +10,7 @@ use Rattle.refusals.specs.Refusals.{first, when}
 
 -- the numbers of the table, from its top
 abbrev pub order : List ℕ
-order = 1 ∷ 13 ∷ 12 ∷ 15 ∷ 4 ∷ 10 ∷ 11 ∷ 2 ∷ 3 ∷ 5 ∷ 6 ∷ 7 ∷ 14 ∷ 8 ∷ 9 ∷ []
+order = 1 ∷ 13 ∷ 19 ∷ 12 ∷ 15 ∷ 4 ∷ 10 ∷ 11 ∷ 2 ∷ 18 ∷ 16 ∷ 17 ∷ 3 ∷ 5 ∷ 6 ∷ 7 ∷ 14 ∷ 8 ∷ 9 ∷ []
 
 -- a number, and whether its test applies
 abbrev pub Test : Type 0

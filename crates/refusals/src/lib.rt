@@ -15,6 +15,9 @@ pub const FORMAT: u8 = 1;
 // The reader's setting is above 6.
 pub const SETTING: u8 = 13;
 
+// The desk's count of slots is not one from 2 to 8, or there is no such slot.
+pub const OUT_OF_RANGE: u8 = 19;
+
 // The state record is impossible.
 pub const STATE: u8 = 12;
 
@@ -32,6 +35,15 @@ pub const MAGNITUDE: u8 = 11;
 
 // A line or block buffer, number bytes, sector data or pixels are shorter than needed.
 pub const SHORT_INPUT: u8 = 2;
+
+// The desk has no serial number left.
+pub const NO_SERIAL: u8 = 18;
+
+// The desk has no free slot.
+pub const NO_SLOT: u8 = 16;
+
+// The slot is not held by that consumer, or not being filled, under that serial number.
+pub const NO_HOLD: u8 = 17;
 
 // The output is shorter than the result.
 pub const SHORT_OUTPUT: u8 = 3;

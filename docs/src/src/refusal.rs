@@ -14,9 +14,12 @@ pub const FORMAT: Refusal = 1;
 /// Document 02, T-01: "13 for a setting above 6, tested after 1"
 pub const SETTING: Refusal = 13;
 
+/// Document 02, T-06: "19 for a slot number or a count out of range, tested first"
+pub const OUT_OF_RANGE: Refusal = 19;
+
 /// "state record impossible: ... a segment mark above 24". Document 02, T-05: "12
 /// for a record over the limit, with sector counts that do not add up, or a
-/// count or sum above what its lines allow"
+/// count or sum above what its lines allow"; T-06: "12 for an impossible desk"
 pub const STATE: Refusal = 12;
 
 /// Document 02, T-05: "15, tested after 12, for one line more, or two records
@@ -35,8 +38,20 @@ pub const RANGE: Refusal = 10;
 pub const MAGNITUDE: Refusal = 11;
 
 /// "line buffer under 44,356 bytes, block buffer under its size, or number
-/// bytes, sector data or pixels fewer than needed"
+/// bytes, sector data or pixels fewer than needed". Document 02, T-06: "2 for a
+/// short area"
 pub const SHORT_INPUT: Refusal = 2;
+
+/// Document 02, T-06: "18 for a take with serials used up"
+pub const NO_SERIAL: Refusal = 18;
+
+/// Document 02, T-06: "16 for a take exactly when serials remain and no slot is
+/// free"
+pub const NO_SLOT: Refusal = 16;
+
+/// Document 02, T-06: "17 for a hold that isn't there, or a publish of a slot not
+/// being filled under that serial"
+pub const NO_HOLD: Refusal = 17;
 
 /// "output shorter than the result"
 pub const SHORT_OUTPUT: Refusal = 3;

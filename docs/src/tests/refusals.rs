@@ -10,6 +10,7 @@ use std::sync::OnceLock;
 
 use second::blocks::{self, Assembly, ALL_MARKS, BLOCKS, MANAM};
 use second::damage::{wrong_check, wrong_id};
+use second::desk::{self, Desk, CAPTURE, LAST_SERIAL};
 use second::document;
 use second::format::{format, LINE_BYTES};
 use second::numbers::{read_bcd, read_i, read_r, write_r};
@@ -19,9 +20,12 @@ use second::report::{self, Channel, Report, Tally};
 use second::scramble::write_line;
 use second::sectors::{self, SECTORS, STRIP_BYTES};
 
-/// The refusal numbers as the table lists them. 13, 14 and 15 are document 02's:
-/// "tested after 1", "tested before 8", "tested after 12".
-const TABLE: [u8; 15] = [1, 13, 12, 15, 4, 10, 11, 2, 3, 5, 6, 7, 14, 8, 9];
+/// The refusal numbers as the table lists them. 13 to 19 are document 02's: "tested
+/// after 1", "tested before 8", "tested after 12", and of a desk 19 "tested first,
+/// then 12 .. and 2"; 18 and 16 for a take, 17 else.
+const TABLE: [u8; 19] = [
+    1, 13, 19, 12, 15, 4, 10, 11, 2, 18, 16, 17, 3, 5, 6, 7, 14, 8, 9,
+];
 
 /// The faults of one call.
 struct Faults(Vec<u8>);
@@ -153,6 +157,78 @@ fn two_reports_together() {
                 true => report::together(&wrong, &right).map(|_| ()),
                 false => report::together(&right, &wrong).map(|_| ()),
             }
+        });
+    }
+}
+
+/// A desk of two slots: slot 0 is being filled under serial 3, or with the fault 12
+/// under 0; slot 1 has line 5, which capture holds. With the fault 16 that is all,
+/// else slot 1 is free.
+fn desk_with(faults: &Faults) -> Desk {
+    let lines = faults.pick(16, vec![(1, 5)], vec![]);
+    Desk {
+        count: faults.pick(19, 9, 2),
+        last: faults.pick(18, LAST_SERIAL, 5),
+        filling: [(0, faults.pick(12, 0, 3))].into(),
+        holds: lines.iter().map(|line| (CAPTURE, *line)).collect(),
+        lines: lines.into_iter().collect(),
+    }
+}
+
+#[test]
+fn taking_a_slot() {
+    every_set(&[19, 12, 2, 18, 16], |faults| {
+        let before = desk_with(faults);
+        let mut desk = before.clone();
+        // short for both counts, or enough for both
+        let area = faults.pick(2, 2, 9) * LINE_BYTES - 1;
+        let given = desk::take(&mut desk, area);
+        assert_eq!(given.is_err(), desk == before);
+        given.map(|_| ())
+    });
+}
+
+/// 17 by another slot, another serial or another consumer, one at a time.
+#[test]
+fn publishing_and_releasing() {
+    for count_is_wrong in [true, false] {
+        every_set(&[19, 12, 2, 17], |faults| {
+            let held = Faults(vec![16]);
+            let mut before = desk_with(&held);
+            if faults.has(12) {
+                before.filling = [(0, 6)].into();
+            }
+            let right = *before.filling.first().unwrap();
+            let slot = match (faults.has(19), count_is_wrong) {
+                (true, true) => {
+                    before.count = 1;
+                    Some(0)
+                }
+                (true, false) => Some(2),
+                (false, _) => None,
+            };
+            let area = faults.pick(2, 2 * LINE_BYTES - 1, 2 * LINE_BYTES);
+            let mut given = vec![];
+            let wrong = [(1, right.1), (0, right.1 + 1), (1, 5), (0, 5)];
+            let places = faults.pick(17, wrong.to_vec(), vec![right]);
+            for (at, serial) in places {
+                let mut desk = before.clone();
+                let answer = desk::publish(&mut desk, area, (slot.unwrap_or(at), serial));
+                assert_eq!(answer.is_err(), desk == before);
+                given.push(answer);
+            }
+            let wrong = [(2, 0, 5), (2, 1, 4), (1, 1, 5), (0, 1, 5), (3, 1, 5)];
+            let holds = faults.pick(17, wrong.to_vec(), vec![(2, 1, 5)]);
+            for (consumer, at, serial) in holds {
+                let mut desk = before.clone();
+                let place = (slot.unwrap_or(at), serial);
+                given.push(desk::seen(&desk, area, consumer, place).map(|_| ()));
+                let answer = desk::release(&mut desk, area, consumer, place);
+                assert_eq!(answer.is_err(), desk == before);
+                given.push(answer);
+            }
+            assert!(given.iter().all(|answer| *answer == given[0]), "{given:?}");
+            given[0]
         });
     }
 }

@@ -1,5 +1,6 @@
 //! The refusals of each call: what the header's comment of a call names is
-//! what the call is proved to test, `demands/specs/Orders.antt`.
+//! what the call is proved to test, `demands/specs/Orders.antt`. What a call on
+//! the desk tests stands by name in `histories/specs/Tests.antt`.
 
 use std::collections::BTreeMap;
 
@@ -10,10 +11,11 @@ use crate::tokens::{number, tokens, Token};
 use crate::tree::Tree;
 
 pub const ORDERS: &str = "crates/demands/specs/Orders.antt";
+pub const TESTS: &str = "crates/histories/specs/Tests.antt";
 
 /// Rows of the proved list that have another name than their call, or more
 /// calls than one.
-const ROWS: [(&str, &[&str]); 10] = [
+const ROWS: [(&str, &[&str]); 11] = [
     ("format-of", &["format"]),
     ("step", &["stepped", "step"]),
     ("data-of", &["data"]),
@@ -27,6 +29,7 @@ const ROWS: [(&str, &[&str]); 10] = [
         "level",
         &["albedo", "albedo_f64", "temperature", "temperature_f64"],
     ),
+    ("release", &["release", "seen"]),
 ];
 
 /// Tests of the proved list that no input meets: these calls ask for a block
@@ -36,23 +39,18 @@ const NEVER: [(&str, u64); 2] = [("mapping", 4), ("elements", 4)];
 /// Calls without a row: they cannot refuse.
 const SERVED: [&str; 4] = ["version", "fresh", "fresh_assembly", "empty_report"];
 
-/// The numbers that each call tests, without their order.
-pub fn tested(text: &str) -> Result<BTreeMap<String, Vec<u64>>, String> {
-    let text: Vec<&str> = text.lines().map(without_comment).collect();
-    let tokens = tokens(&text.join("\n"));
+/// The numbers that each call tests, without their order, by the record and by a
+/// text of tests that it takes from elsewhere.
+pub fn tested(elsewhere: &str, text: &str) -> Result<BTreeMap<String, Vec<u64>>, String> {
+    let tokens = bare(text);
     let start = tokens
         .windows(3)
         .position(|w| [&w[0].text[..], &w[1].text, &w[2].text] == ["pub", "record", "Orders"])
         .ok_or_else(|| format!("{ORDERS}: there is no record Orders"))?;
 
-    let mut tests: BTreeMap<String, Vec<u64>> = BTreeMap::new();
-    for definition in tokens[..start].split(|t| t.text == "abbrev" || t.text == "unfoldable") {
-        let equals = definition.iter().position(|t| t.text == "=");
-        if let (Some(name), Some(equals)) = (definition.get(1), equals) {
-            let found = numbers(&definition[equals..], &tests);
-            tests.insert(name.text.clone(), found);
-        }
-    }
+    let mut tests = BTreeMap::new();
+    define(&bare(elsewhere), &mut tests);
+    define(&tokens[..start], &mut tests);
     let mut out = BTreeMap::new();
     let mut never = NEVER.to_vec();
     for row in tokens[start + 1..].split(|t| t.text == "pub").skip(1) {
@@ -79,6 +77,23 @@ pub fn tested(text: &str) -> Result<BTreeMap<String, Vec<u64>>, String> {
         return Err(format!("{ORDERS}: {call} does not test {number}"));
     }
     Ok(out)
+}
+
+/// The words of a text without its comments.
+fn bare(text: &str) -> Vec<Token> {
+    let text: Vec<&str> = text.lines().map(without_comment).collect();
+    tokens(&text.join("\n"))
+}
+
+/// The tests that have a name of their own, each over those before it.
+fn define(tokens: &[Token], tests: &mut BTreeMap<String, Vec<u64>>) {
+    for definition in tokens.split(|t| t.text == "abbrev" || t.text == "unfoldable") {
+        let equals = definition.iter().position(|t| t.text == "=");
+        if let (Some(name), Some(equals)) = (definition.get(1), equals) {
+            let found = numbers(&definition[equals..], tests);
+            tests.insert(name.text.clone(), found);
+        }
+    }
 }
 
 fn without_comment(line: &str) -> &str {
@@ -145,7 +160,7 @@ pub fn compared(
     boundary: &Boundary,
     refusals: &[Named],
 ) -> Result<Vec<String>, String> {
-    let tested = tested(tree.text(ORDERS)?)?;
+    let tested = tested(tree.text(TESTS)?, tree.text(ORDERS)?)?;
     let header = tree.text(FILE)?;
     let mut out = Vec::new();
     for name in boundary.functions.iter().map(|f| &f.name) {

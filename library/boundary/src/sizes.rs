@@ -26,9 +26,12 @@ pub const READER: &str = "crates/reader_refusals/src/lib.rt";
 const TWELVE: &str = "crates/rack_sector/src/lib.rt";
 const PASS: &str = "crates/rack_report/src/lib.rt";
 pub const REPORT: &str = "crates/report_record/src/lib.rt";
+pub const DESK: &str = "crates/desk_record/src/lib.rt";
+const CONSUMERS: &str = "crates/desk/src/lib.rt";
+pub const RACK: &str = "crates/rack_desk/src/lib.rt";
 
 /// Every size by its name in Rust; in the header the prefix comes before it.
-const SIZES: [(&str, &str, From); 34] = [
+const SIZES: [(&str, &str, From); 41] = [
     ("S_VISSR", FORMATS, Field("fn svissr()", "number")),
     ("HIRID", FORMATS, Field("fn hirid()", "number")),
     ("S_VISSR_ONES", FORMATS, Field("fn svissr_ones()", "number")),
@@ -73,6 +76,17 @@ const SIZES: [(&str, &str, From); 34] = [
     ("SEGMENTS", BLOCK, Constants("SEGMENTS")),
     ("CHANNELS", PASS, Field("channels: [ChannelTally", ";")),
     ("REPORT_LINES", REPORT, Constants("MOST_LINES")),
+    ("LEAST_SLOTS", DESK, Constants("LEAST_SLOTS")),
+    ("MOST_SLOTS", DESK, Constants("MOST_SLOTS")),
+    ("FREE", RACK, Field("Use::Free => DeskSlot", "used")),
+    (
+        "FILLING",
+        RACK,
+        Field("Use::Filling(n) => DeskSlot", "used"),
+    ),
+    ("HELD", RACK, Field("capture, } => DeskSlot", "used")),
+    ("PREVIEW", CONSUMERS, Constants("PREVIEW")),
+    ("CAPTURE", CONSUMERS, Constants("CAPTURE")),
     ("ALL_MARKS", MARKS, Constants("ALL")),
     ("FIFTEEN_ONES", SCRAMBLE, Constants("FIFTEEN_ONES")),
 ];

@@ -19,6 +19,7 @@ impl Tree {
         }
         let others = [
             calls::ORDERS,
+            calls::TESTS,
             numbers::ORDER,
             numbers::TABLE,
             header::FILE,

@@ -415,7 +415,17 @@ fn numbers_and_tables_are_read() {
     assert_eq!(rows, expected);
 }
 
+const TESTS: &str = "
+abbrev pub slotTest : Desk → Test
+slotTest d = (19, leb d 1)
+
+abbrev pub slotTests : Desk → Bool → List Test
+slotTests d there = slotTest d ∷ (17, not there) ∷ [] -- (97, no) number
+";
+
 const ORDERS: &str = "
+use Rattle.histories.specs.Tests.{slotTests}
+
 -- (99, no) number
 abbrev pub formatTest : ℕ → Test
 formatTest f = (1, unknown f)
@@ -432,11 +442,13 @@ pub record Orders : Type 0 where
       → Gives (readRefusal f s) (bothTests f 1 ++ (7, g s) ∷ [])
   pub mapping-of : (f : ℕ) → Gives (mappingRefusal f) ((4, outside 1 5 f) ∷ (9, f) ∷ [])
   pub elements : (f : ℕ) → Gives (elementsRefusal f) ((4, outside 1 5 f) ∷ (9, f) ∷ [])
+  pub publish : (d : Desk) → Gives (publishRefusal d) (slotTests d (filling d))
+  pub release : (d : Desk) → Gives (releaseRefusal d) (slotTests d (held d) ++ formatTest d ∷ [])
 ";
 
 #[test]
 fn the_tests_of_a_call_are_read() {
-    let found = tested(ORDERS).unwrap();
+    let found = tested(TESTS, ORDERS).unwrap();
     assert_eq!(found["hansobrik_format"], [1]);
     assert_eq!(found["hansobrik_step"], [12]);
     assert_eq!(found["hansobrik_stepped"], [12]);
@@ -444,13 +456,17 @@ fn the_tests_of_a_call_are_read() {
     assert_eq!(found["hansobrik_mapping"], [9]);
     assert_eq!(found["hansobrik_fresh"], [0; 0]);
     assert_eq!(found["hansobrik_empty_report"], [0; 0]);
-    assert_eq!(found.len(), 10);
+    assert_eq!(found["hansobrik_publish"], [19, 17]);
+    assert_eq!(found["hansobrik_release"], [19, 17, 1]);
+    assert_eq!(found["hansobrik_seen"], [19, 17, 1]);
+    assert_eq!(found.len(), 13);
     for (old, new) in [
         ("record Orders", "record Others"),
         ("pub read :", "pub fresh :"),
         ("(4, outside 1 5 f) ∷ (9, f)", "(9, f)"),
     ] {
-        assert!(tested(&ORDERS.replacen(old, new, 1)).is_err(), "{new}");
+        let orders = ORDERS.replacen(old, new, 1);
+        assert!(tested(TESTS, &orders).is_err(), "{new}");
     }
 }
 

@@ -6,6 +6,7 @@
 //! calls come from chance ([`make`]) and from fixed suites ([`suites`]).
 
 pub mod call;
+pub mod desk;
 pub mod names;
 pub mod report;
 pub mod rows;

@@ -1,4 +1,4 @@
-//! The 45 calls by name.
+//! The 50 calls by name.
 
 /// The calls in the header's order.
 #[derive(Clone, Copy, Debug, PartialEq, Eq)]
@@ -48,4 +48,9 @@ pub enum Name {
     EmptyReport,
     WithLine,
     Together,
+    FreshDesk,
+    Take,
+    Publish,
+    Release,
+    Seen,
 }

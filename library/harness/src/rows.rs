@@ -1,4 +1,4 @@
-//! The 45 calls as the header declares them. `tests/rows.rs` holds this table
+//! The 50 calls as the header declares them. `tests/rows.rs` holds this table
 //! to the header's own text.
 
 pub use crate::names::Name;
@@ -6,10 +6,12 @@ pub use crate::shapes::REGISTER_LENT;
 use crate::shapes::*;
 
 /// How many calls there are.
-pub const CALLS: usize = 45;
+pub const CALLS: usize = 50;
 
 /// All refusals, in the order in which they are tested.
-pub const ORDER: [u8; 15] = [1, 13, 12, 15, 4, 10, 11, 2, 3, 5, 6, 7, 14, 8, 9];
+pub const ORDER: [u8; 19] = [
+    1, 13, 19, 12, 15, 4, 10, 11, 2, 18, 16, 17, 3, 5, 6, 7, 14, 8, 9,
+];
 
 /// A buffer of a call.
 #[derive(Clone, Copy, Debug, PartialEq, Eq)]
@@ -22,7 +24,7 @@ pub struct Part {
 }
 
 /// What comes back as it was handed in where a call is refused: the reader's
-/// record, a register, an assembly's record, a report.
+/// record, a register, an assembly's record, a report, a desk.
 #[derive(Clone, Copy, Debug, PartialEq, Eq)]
 pub struct Kept {
     /// The first of them among the answer's fields, ...
@@ -63,6 +65,9 @@ const fn row(
         Name::AddSegment => KEEPS_ASSEMBLY,
         Name::WithLine => KEEPS_REPORT,
         Name::Together => KEEPS_FIRST_REPORT,
+        Name::FreshDesk => KEEPS_COUNT,
+        Name::Take => KEEPS_DESK_BEHIND,
+        Name::Publish | Name::Release => KEEPS_DESK,
         _ => KEEPS_NOTHING,
     };
     Row {
@@ -124,4 +129,9 @@ pub const ROWS: [Row; CALLS] = [
     row(Name::EmptyReport, "empty_report", &[], &[], REPORT, &[]),
     row(Name::WithLine, "with_line", REPORTING, &[LINE], REPORTED, &[1, 12, 15, 2]),
     row(Name::Together, "together", TWO_REPORTS, &[], REPORTED, &[12, 15]),
+    row(Name::FreshDesk, "fresh_desk", COUNTED, &[], DESK, &[19]),
+    row(Name::Take, "take", TAKING, &[], TAKEN, &[19, 12, 2, 18, 16]),
+    row(Name::Publish, "publish", PUBLISHING, &[], DESK, &[19, 12, 2, 17]),
+    row(Name::Release, "release", HOLDING, &[], DESK, &[19, 12, 2, 17]),
+    row(Name::Seen, "seen", HOLDING, &[], SEEN, &[19, 12, 2, 17]),
 ];

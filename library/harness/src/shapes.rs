@@ -1,6 +1,7 @@
 //! What several rows share: numbers handed in, buffers, fields of answers,
 //! refusals. Names are the header's.
 
+use crate::desk;
 use crate::report::NUMBERS;
 use crate::rows::{Kept, Part};
 
@@ -107,10 +108,10 @@ const fn both<T: Copy, const ALL: usize>(one: &[T], other: &[T]) -> [T; ALL] {
     all
 }
 
-const fn names(numbers: [(&'static str, u32); NUMBERS]) -> [&'static str; NUMBERS] {
-    let mut names = [""; NUMBERS];
+const fn names<const ALL: usize>(numbers: [(&'static str, u32); ALL]) -> [&'static str; ALL] {
+    let mut names = [""; ALL];
     let mut i = 0;
-    while i < NUMBERS {
+    while i < ALL {
         names[i] = numbers[i].0;
         i += 1;
     }
@@ -121,6 +122,30 @@ const OF_SECTORS: [(&str, u32); 49] = both(&[("lines", 64)], SECTOR_TALLIES.as_f
 const OF_REPORT: [(&str, u32); NUMBERS] = both(&OF_SECTORS, CHANNEL_TALLIES.as_flattened());
 pub const REPORTING: Numbers = &both::<_, 70>(FORMAT, &OF_REPORT);
 pub const TWO_REPORTS: Numbers = &both::<_, 138>(&OF_REPORT, &OF_REPORT);
+
+// A desk, likewise.
+macro_rules! slot {
+    ($place:literal) => {
+        [
+            (concat!("slots[", $place, "].serial"), 32),
+            (concat!("slots[", $place, "].used"), 16),
+            (concat!("slots[", $place, "].holders"), 16),
+        ]
+    };
+}
+#[rustfmt::skip] // a table: four slots a line
+const SLOTS: [[(&str, u32); 3]; 8] = [
+    slot!(0), slot!(1), slot!(2), slot!(3),
+    slot!(4), slot!(5), slot!(6), slot!(7),
+];
+const OF_DESK: [(&str, u32); desk::NUMBERS] =
+    both(&[("count", 32), ("last", 32)], SLOTS.as_flattened());
+pub const COUNTED: Numbers = &[("count", 32)];
+pub const TAKING: Numbers = &both::<_, 27>(&OF_DESK, &[("area", 64)]);
+pub const PUBLISHING: Numbers =
+    &both::<_, 29>(&OF_DESK, &[("area", 64), ("slot", 64), ("serial", 32)]);
+const OF_HOLD: Numbers = &[("area", 64), ("consumer", 8), ("slot", 64), ("serial", 32)];
+pub const HOLDING: Numbers = &both::<_, 30>(&OF_DESK, OF_HOLD);
 
 const fn part(what: &'static str, words: bool, written: bool) -> Part {
     Part {
@@ -246,6 +271,9 @@ pub const ORBIT: Fields = &[
 
 pub const REPORT: Fields = &names(OF_REPORT);
 pub const REPORTED: Fields = &both::<_, 70>(ALONE, REPORT);
+pub const DESK: Fields = &both::<_, 27>(ALONE, &names(OF_DESK));
+pub const TAKEN: Fields = &both::<_, 29>(&["refused", "serial", "slot"], &names(OF_DESK));
+pub const SEEN: Fields = &["refused", "from", "to"];
 
 // What comes back as it was handed in where a call is refused.
 pub const KEEPS_NOTHING: Kept = Kept {
@@ -278,6 +306,22 @@ pub const KEEPS_FIRST_REPORT: Kept = Kept {
     field: 1,
     number: 0,
     count: NUMBERS,
+};
+
+pub const KEEPS_COUNT: Kept = Kept {
+    field: 1,
+    number: 0,
+    count: 1,
+};
+pub const KEEPS_DESK: Kept = Kept {
+    field: 1,
+    number: 0,
+    count: desk::NUMBERS,
+};
+pub const KEEPS_DESK_BEHIND: Kept = Kept {
+    field: 3,
+    number: 0,
+    count: desk::NUMBERS,
 };
 
 // Refusals, in the order in which they are tested.

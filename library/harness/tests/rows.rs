@@ -178,13 +178,16 @@ fn fields_are_those_of_the_answers() {
 
 /// The comment of a call ends with its refusals by name: "Refused: FORMAT,
 /// STATE.", or "Never refused." A comment is for all the calls up to the next
-/// one.
+/// one. A call that a comment shows is not declared there.
 #[test]
 fn refusals_are_those_of_the_comments() {
     let text = declarations();
     for row in &ROWS {
         let opening = format!(" hansobrik_{}(", row.text);
-        let before = text.split_once(&opening).expect(row.text).0;
+        let before = |(at, _): (usize, _)| &text[..at];
+        let declares = |before: &&str| before.rfind("/*") < before.rfind("*/");
+        let mut places = text.match_indices(&opening).map(before);
+        let before = places.find(declares).expect(row.text);
         let comment = before.rsplit_once("/*").expect("a comment").1;
         let comment = comment.split_once("*/").expect("it ends").0.trim();
         let last = comment.rsplit(". ").next().expect("a sentence");

@@ -3,9 +3,10 @@
 //!
 //! Safe Rust calls of the proved library, one for each call of `hansobrik.h`,
 //! named as there without the prefix; those of a pass's report stand in the
-//! module [`report`]. A call that can refuse gives a `Result`;
-//! a refused call changes no buffer, no state and no assembly. Its refusals are
-//! named, as constants of [`Refusal`], in the order in which they are tested.
+//! module [`report`], those of the desk in [`desk`]. A call that can refuse gives
+//! a `Result`; a refused call changes no buffer, no state, no assembly and no
+//! desk. Its refusals are named, as constants of [`Refusal`], in the order in
+//! which they are tested.
 //!
 //! Format 3 is format 1 from a card that presets its check register with
 //! sixteen ones: in each sector the first 16 bits are inverted before the
@@ -18,7 +19,7 @@
 //! no memory of its own and keeps nothing between calls. The crate is `no_std`.
 //!
 //! Trusted here is that each safe call hands on the pointer and the count of
-//! its own slices.
+//! its own slices, and that [`desk::Area`] lends a slot as its desk says.
 //!
 //! A line made, written for the wire, and read again in pieces:
 //!
@@ -47,6 +48,7 @@
 
 #![no_std]
 
+pub mod desk;
 pub mod raw;
 pub mod report;
 

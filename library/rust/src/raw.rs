@@ -89,6 +89,31 @@ pub struct PassReport {
     pub channels: [ChannelTally; 4],
 }
 
+/// One slot of a desk. Of a free one serial and holders say nothing, of a filling
+/// one its holders.
+#[repr(C)]
+#[derive(Clone, Copy, Debug, Default, PartialEq, Eq)]
+pub struct DeskSlot {
+    /// Of the line in it.
+    pub serial: u32,
+    /// 0 free, 1 filling, 2 held. No other mark is possible.
+    pub used: u16,
+    /// Of a held one: 1 preview, 2 capture, 3 both. No other mark is possible.
+    pub holders: u16,
+}
+
+/// Who has which slot of an area; 72 bytes without a gap. Slots from the count on
+/// do not exist: nobody looks at them, and they come back as they stand.
+#[repr(C)]
+#[derive(Clone, Copy, Debug, Default, PartialEq, Eq)]
+pub struct LineDesk {
+    /// 2 to 8.
+    pub count: u32,
+    /// The serial number given last; 0 before the first.
+    pub last: u32,
+    pub slots: [DeskSlot; 8],
+}
+
 #[repr(C)]
 #[derive(Clone, Copy, Debug, Default, PartialEq, Eq)]
 pub struct FormatAnswer {
@@ -271,6 +296,30 @@ pub struct OrbitAnswer {
 pub struct ReportAnswer {
     pub refused: u8,
     pub report: PassReport,
+}
+
+#[repr(C)]
+#[derive(Clone, Copy, Debug, Default, PartialEq, Eq)]
+pub struct DeskAnswer {
+    pub refused: u8,
+    pub desk: LineDesk,
+}
+
+#[repr(C)]
+#[derive(Clone, Copy, Debug, Default, PartialEq, Eq)]
+pub struct TakenAnswer {
+    pub refused: u8,
+    pub serial: u32,
+    pub slot: usize,
+    pub desk: LineDesk,
+}
+
+#[repr(C)]
+#[derive(Clone, Copy, Debug, Default, PartialEq, Eq)]
+pub struct SeenAnswer {
+    pub refused: u8,
+    pub from: usize,
+    pub to: usize,
 }
 
 // The version of the archive.
@@ -520,4 +569,25 @@ extern "C" {
         line_count: usize,
     ) -> ReportAnswer;
     pub fn hansobrik_together(first: PassReport, second: PassReport) -> ReportAnswer;
+}
+
+// The desk.
+extern "C" {
+    pub fn hansobrik_fresh_desk(count: u32) -> DeskAnswer;
+    pub fn hansobrik_take(desk: LineDesk, area: usize) -> TakenAnswer;
+    pub fn hansobrik_publish(desk: LineDesk, area: usize, slot: usize, serial: u32) -> DeskAnswer;
+    pub fn hansobrik_release(
+        desk: LineDesk,
+        area: usize,
+        consumer: u8,
+        slot: usize,
+        serial: u32,
+    ) -> DeskAnswer;
+    pub fn hansobrik_seen(
+        desk: LineDesk,
+        area: usize,
+        consumer: u8,
+        slot: usize,
+        serial: u32,
+    ) -> SeenAnswer;
 }

@@ -58,6 +58,18 @@ pub const CHANNELS: u8 = 4;
 /// The most lines of a report.
 pub const REPORT_LINES: u64 = 100_000;
 
+/// A desk has so many slots of one line each,
+pub const LEAST_SLOTS: usize = 2;
+/// up to so many.
+pub const MOST_SLOTS: usize = 8;
+/// What a slot of the record is used for,
+pub const FREE: u16 = 0;
+pub const FILLING: u16 = 1;
+pub const HELD: u16 = 2;
+/// and the two who hold a line: as a consumer one of them, as holders their sum.
+pub const PREVIEW: u8 = 1;
+pub const CAPTURE: u8 = 2;
+
 /// The marks of a finished block.
 pub const ALL_MARKS: u32 = 0x01FF_FFFF;
 /// The scrambling register before the first information bit.

@@ -30,6 +30,8 @@ fn records_have_the_layout_of_the_header() {
     laid_out!(SectorTally, 32, 8, { accepted: 0, remainder: 8, id: 16, filler: 24 });
     laid_out!(ChannelTally, 24, 8, { count: 0, sum: 8, least: 16, largest: 18, present: 20 });
     laid_out!(PassReport, 488, 8, { lines: 0, sectors: 8, channels: 392 });
+    laid_out!(DeskSlot, 8, 4, { serial: 0, used: 4, holders: 6 });
+    laid_out!(LineDesk, 72, 4, { count: 0, last: 4, slots: 8 });
     laid_out!(FormatAnswer, 40, 8, {
         refused: 0, number: 1, check_start: 2, sync_bits: 8, information_bits: 16, dummy_bits: 24,
         bytes: 32,
@@ -63,4 +65,7 @@ fn records_have_the_layout_of_the_header() {
         perigee: 48, anomaly: 56,
     });
     laid_out!(ReportAnswer, 496, 8, { refused: 0, report: 8 });
+    laid_out!(DeskAnswer, 76, 4, { refused: 0, desk: 4 });
+    laid_out!(TakenAnswer, 88, 8, { refused: 0, serial: 4, slot: 8, desk: 16 });
+    laid_out!(SeenAnswer, 24, 8, { refused: 0, from: 8, to: 16 });
 }

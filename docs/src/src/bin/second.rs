@@ -11,6 +11,9 @@
 //! - `second report [FORMAT [SETTING]] < recording` writes the report of a
 //!   recording; see `second::report`. Where it has over 100,000 lines nothing is
 //!   written and the status is 1.
+//! - `second class FORMAT SETTING SLOTS PREVIEW CAPTURE < recording` writes what
+//!   comes of a class over an area of so many slots, in which preview and capture
+//!   are so many line times behind the feeder; see `second::class`.
 //! - `second damaged N FORMAT` writes the recording of `signal N FORMAT` with
 //!   damage in its sectors; `second::damage` says exactly which.
 //! - `second vectors` prints worked values of the paper's edges.
@@ -26,12 +29,13 @@ use second::fields::Fields;
 use second::listing::Listing;
 use second::report::{self, Pass};
 use second::scramble::TAIL_BITS;
-use second::{damage, pattern, reader, refusal, vectors};
+use second::{class, damage, pattern, reader, refusal, vectors};
 
 const USAGE: &str = "usage: second signal N FORMAT [W [T]]
        second listing [FORMAT [SETTING]] < recording
        second fields [FORMAT [SETTING]] < recording
        second report [FORMAT [SETTING]] < recording
+       second class FORMAT SETTING SLOTS PREVIEW CAPTURE < recording
        second damaged N FORMAT
        second vectors
        second zeros
@@ -139,6 +143,16 @@ fn report(format: usize, setting: usize) -> Outcome {
     print(report::rows(&pass.report))
 }
 
+/// The recording is read whole: the feeder is done where nothing of it is left.
+fn class(format: usize, setting: usize, slots: usize, lags: [u64; 2]) -> Outcome {
+    let mut recording = vec![];
+    io::stdin().lock().read_to_end(&mut recording)?;
+    let (rows, unfinished) =
+        class::rows(format, setting, slots, lags, &recording).map_err(refused)?;
+    tell(unfinished);
+    print(rows)
+}
+
 fn damaged(lines: u64, format: usize) -> Outcome {
     second::format::format(format).map_err(refused)?;
     let mut out = io::stdout().lock();
@@ -176,6 +190,12 @@ fn run(words: &[&str]) -> Outcome {
         ["report"] => report(1, 0),
         ["report", format] => report(format.parse()?, 0),
         ["report", format, setting] => report(format.parse()?, setting.parse()?),
+        ["class", format, setting, slots, preview, capture] => class(
+            format.parse()?,
+            setting.parse()?,
+            slots.parse()?,
+            [preview.parse()?, capture.parse()?],
+        ),
         ["damaged", lines, format] => damaged(lines.parse()?, format.parse()?),
         ["vectors"] => print(vectors::rows()),
         ["zeros"] => zeros(),

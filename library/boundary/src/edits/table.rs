@@ -1,11 +1,11 @@
 //! The edits, each with what the check must say of it.
 
 use super::{compilers, texts, Edit};
-use crate::calls::ORDERS;
+use crate::calls::{ORDERS, TESTS};
 use crate::header::FILE as HEADER;
 use crate::numbers::{NAMED, NUMBERS, ORDER, TABLE};
 use crate::rust::{DOCUMENTATION, RAW, REFUSAL, SIZES};
-use crate::sizes::{BLOCK, FORMATS, LAYOUT, READER, REPORT};
+use crate::sizes::{BLOCK, DESK, FORMATS, LAYOUT, RACK, READER, REPORT};
 use crate::version::MANIFEST;
 
 const GROUND: &str = "crates/rack_ground/src/lib.rt";
@@ -127,6 +127,23 @@ pub const EDITS: &[Edit] = &[
             "sectors[12]",
         ],
     ),
+    texts(
+        &[(HEADER, "uint16_t used; /*", "uint8_t used; /*")],
+        &[
+            "hansobrik_desk_slot: field 2",
+            "uint8_t used",
+            "uint16_t used",
+            "rack_desk",
+        ],
+    ),
+    texts(
+        &[(
+            HEADER,
+            "hansobrik_desk_slot slots[8];",
+            "hansobrik_desk_slot slots[7];",
+        )],
+        &["hansobrik_line_desk: field 3", "slots[7]", "slots[8]"],
+    ),
     // functions of the header
     texts(
         &[(
@@ -232,6 +249,22 @@ pub const EDITS: &[Edit] = &[
         )],
         &["hansobrik_together: parameter 1", "second", "first"],
     ),
+    texts(
+        &[(
+            HEADER,
+            "hansobrik_publish(hansobrik_line_desk desk, size_t area, size_t slot, uint32_t serial)",
+            "hansobrik_publish(hansobrik_line_desk desk, size_t slot, size_t area, uint32_t serial)",
+        )],
+        &["hansobrik_publish: parameter 2", "size_t slot", "size_t area"],
+    ),
+    texts(
+        &[(
+            HEADER,
+            "hansobrik_take(hansobrik_line_desk desk, size_t area);",
+            "hansobrik_take(hansobrik_line_desk *desk, size_t area);",
+        )],
+        &["hansobrik_take: parameter 1", "hansobrik_line_desk *desk"],
+    ),
     // structs and functions of Rust
     texts(
         &[(RAW, "pub magnitude: u64,", "pub magnitude: u32,")],
@@ -310,6 +343,18 @@ pub const EDITS: &[Edit] = &[
             "PassReport: field 3",
             "channels: [SectorTally; 4]",
             "channels: [ChannelTally; 4]",
+        ],
+    ),
+    texts(
+        &[(
+            RAW,
+            "pub slots: [DeskSlot; 8],",
+            "pub slots: [DeskSlot; 9],",
+        )],
+        &[
+            "LineDesk: field 3",
+            "slots: [DeskSlot; 9]",
+            "slots: [DeskSlot; 8]",
         ],
     ),
     // the Rattle text
@@ -506,6 +551,24 @@ pub const EDITS: &[Edit] = &[
         ],
     ),
     texts(
+        &[(
+            HEADER,
+            "Refused: OUT_OF_RANGE, STATE, SHORT_INPUT, NO_SERIAL, NO_SLOT.",
+            "Refused: OUT_OF_RANGE, STATE, SHORT_INPUT, NO_SLOT, NO_SERIAL.",
+        )],
+        &[
+            "hansobrik_take: refused with (OUT_OF_RANGE, STATE, SHORT_INPUT, NO_SLOT, NO_SERIAL) by",
+            "(OUT_OF_RANGE, STATE, SHORT_INPUT, NO_SERIAL, NO_SLOT) by",
+        ],
+    ),
+    texts(
+        &[(TESTS, "(17, not there)", "(16, not there)")],
+        &[
+            "hansobrik_seen: refused with (OUT_OF_RANGE, STATE, SHORT_INPUT, NO_HOLD) by",
+            "(OUT_OF_RANGE, STATE, SHORT_INPUT, NO_SLOT) by",
+        ],
+    ),
+    texts(
         &[(HEADER, "first bit. Never refused.", "first bit.")],
         &["the comment of hansobrik_fresh names no refusals"],
     ),
@@ -597,6 +660,18 @@ pub const EDITS: &[Edit] = &[
             "MOST_LINES: u64 = 100001;",
         )],
         &["HANSOBRIK_REPORT_LINES is 100000, but 100001", REPORT],
+    ),
+    texts(
+        &[(DESK, "MOST_SLOTS: usize = 8;", "MOST_SLOTS: usize = 9;")],
+        &["HANSOBRIK_MOST_SLOTS is 8, but 9", DESK],
+    ),
+    texts(
+        &[(RACK, "used: 2,", "used: 3,")],
+        &["HANSOBRIK_HELD is 2, but 3", RACK],
+    ),
+    texts(
+        &[(SIZES, "CAPTURE: u8 = 2;", "CAPTURE: u8 = 3;")],
+        &[SIZES, "CAPTURE is 3, but 2"],
     ),
     texts(
         &[(SIZES, "CHANNELS: u8 = 4;", "CHANNELS: u8 = 3;")],
@@ -705,6 +780,13 @@ pub const EDITS: &[Edit] = &[
         &[
             "by rustc:",
             "the size of raw::PassReport is 520, but 488 by the source",
+        ],
+    ),
+    compilers(
+        &[(RAW, "pub holders: u16,", "pub holders: u32,")],
+        &[
+            "by rustc:",
+            "the size of raw::LineDesk is 104, but 72 by the source",
         ],
     ),
     compilers(

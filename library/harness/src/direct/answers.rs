@@ -2,6 +2,7 @@
 
 use hansobrik::raw::*;
 
+use crate::desk::Desk;
 use crate::report::Report;
 
 /// The reader's record out of its fields.
@@ -84,6 +85,32 @@ pub fn report(r: PassReport) -> Vec<u64> {
         }),
     };
     report.numbers()
+}
+
+/// A desk out of its numbers.
+pub fn line_desk(n: &[u64]) -> LineDesk {
+    let desk = Desk::of(n);
+    LineDesk {
+        count: desk.count as u32,
+        last: desk.last as u32,
+        slots: desk.slots.map(|[serial, used, holders]| DeskSlot {
+            serial: serial as u32,
+            used: used as u16,
+            holders: holders as u16,
+        }),
+    }
+}
+
+/// The numbers of a desk.
+fn desk(d: LineDesk) -> Vec<u64> {
+    let desk = Desk {
+        count: d.count.into(),
+        last: d.last.into(),
+        slots: d
+            .slots
+            .map(|s| [s.serial.into(), s.used.into(), s.holders.into()]),
+    };
+    desk.numbers()
 }
 
 pub fn alone(refused: u8) -> Vec<u64> {
@@ -225,4 +252,17 @@ pub fn orbit(a: OrbitAnswer) -> Vec<u64> {
 
 pub fn reported(a: ReportAnswer) -> Vec<u64> {
     [vec![a.refused.into()], report(a.report)].concat()
+}
+
+pub fn desked(a: DeskAnswer) -> Vec<u64> {
+    [vec![a.refused.into()], desk(a.desk)].concat()
+}
+
+pub fn taken(a: TakenAnswer) -> Vec<u64> {
+    let front = vec![a.refused.into(), a.serial.into(), a.slot as u64];
+    [front, desk(a.desk)].concat()
+}
+
+pub fn seen(a: SeenAnswer) -> Vec<u64> {
+    vec![a.refused.into(), a.from as u64, a.to as u64]
 }

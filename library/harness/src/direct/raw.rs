@@ -7,6 +7,7 @@ use hansobrik::raw::*;
 
 use super::answers::*;
 use crate::call::{Call, Outcome};
+use crate::desk;
 use crate::fence::making;
 use crate::guard::{outcome, Guarded};
 use crate::report::NUMBERS;
@@ -91,6 +92,22 @@ fn made(call: &Call, [one, two]: &[Guarded; 2]) -> Vec<u64> {
             Name::Together => {
                 let (first, second) = (pass_report(&n), pass_report(&n[NUMBERS..]));
                 reported(hansobrik_together(first, second))
+            }
+            Name::FreshDesk => desked(hansobrik_fresh_desk(n[0] as u32)),
+            Name::Take => taken(hansobrik_take(line_desk(&n), n[desk::NUMBERS] as usize)),
+            Name::Publish => {
+                let (area, slot) = (n[desk::NUMBERS] as usize, n[desk::NUMBERS + 1] as usize);
+                let serial = n[desk::NUMBERS + 2] as u32;
+                desked(hansobrik_publish(line_desk(&n), area, slot, serial))
+            }
+            Name::Release | Name::Seen => {
+                let (area, consumer) = (n[desk::NUMBERS] as usize, n[desk::NUMBERS + 1] as u8);
+                let (slot, serial) = (n[desk::NUMBERS + 2] as usize, n[desk::NUMBERS + 3] as u32);
+                let desk = line_desk(&n);
+                match call.name {
+                    Name::Release => desked(hansobrik_release(desk, area, consumer, slot, serial)),
+                    _ => seen(hansobrik_seen(desk, area, consumer, slot, serial)),
+                }
             }
         }
     }

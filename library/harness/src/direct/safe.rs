@@ -1,14 +1,16 @@
 //! The safe functions of the crate `hansobrik`. A `Result` is turned into the
 //! fields of the answer; the two records, which they change in place, are taken
-//! as they stand after the call, refused or not. A report is not changed in
-//! place, and one with a wrong mark cannot be said there: such a call is made by
-//! the declarations once more.
+//! as they stand after the call, refused or not; so is a desk. A report is not
+//! changed in place. One with a wrong mark cannot be said there, nor a desk with
+//! one, with numbers that say nothing, or a consumer that is none: such a call is
+//! made by the declarations once more.
 
 use hansobrik::{self as safe, Refusal};
 
 use super::answers::{assembled, assembly, record, state};
 use super::raw::through_rust;
 use crate::call::{Call, Lent, Outcome};
+use crate::desk::{self, Desk, CAPTURE, FILLING, FREE, HELD, PREVIEW};
 use crate::report::{Report, NUMBERS};
 use crate::rows::Name;
 
@@ -19,7 +21,7 @@ type Answer = Result<Vec<u64>, Refusal>;
 pub fn through_safe(call: &Call) -> Outcome {
     let mut lent = call.lent.clone();
     let n = call.numbers.as_slice();
-    if reports(call).iter().any(Report::has_wrong_mark) {
+    if reports(call).iter().any(Report::has_wrong_mark) || !desk_is_plain(call) {
         return through_rust(call);
     }
     let numbers = match call.name {
@@ -31,6 +33,10 @@ pub fn through_safe(call: &Call) -> Outcome {
         // and these two change what the caller keeps
         Name::Read => read(n, &mut lent),
         Name::AddSegment => add_segment(n, &mut lent),
+        // and these three a desk
+        Name::Take => take(n),
+        Name::Publish => publish(n),
+        Name::Release => release(n),
         _ => match answer(call.name, n, &mut lent) {
             Ok(fields) => [vec![0], fields].concat(),
             Err(Refusal(number)) => call.refused(number),
@@ -41,6 +47,96 @@ pub fn through_safe(call: &Call) -> Outcome {
         lent,
         harm: None,
     }
+}
+
+/// Whether the safe functions can say what is handed in.
+fn desk_is_plain(call: &Call) -> bool {
+    let n = call.numbers.as_slice();
+    match call.name {
+        Name::Take | Name::Publish => of_desk(safe_desk(n)) == n[..desk::NUMBERS],
+        Name::Release | Name::Seen => {
+            of_desk(safe_desk(n)) == n[..desk::NUMBERS] && consumer(n).is_some()
+        }
+        _ => true,
+    }
+}
+
+/// A desk out of its numbers. A mark that says nothing becomes one that does.
+fn safe_desk(n: &[u64]) -> safe::desk::Desk {
+    let desk = Desk::of(n);
+    safe::desk::Desk {
+        count: desk.count as u32,
+        last: desk.last as u32,
+        slots: desk.slots.map(|[serial, used, holders]| match used {
+            FREE => safe::desk::Slot::Free,
+            FILLING => safe::desk::Slot::Filling(serial as u32),
+            _ => safe::desk::Slot::Held {
+                serial: serial as u32,
+                preview: holders & PREVIEW != 0,
+                capture: holders & CAPTURE != 0,
+            },
+        }),
+    }
+}
+
+/// The numbers of a desk.
+fn of_desk(desk: safe::desk::Desk) -> Vec<u64> {
+    let desk = Desk {
+        count: desk.count.into(),
+        last: desk.last.into(),
+        slots: desk.slots.map(|slot| match slot {
+            safe::desk::Slot::Free => [0, FREE, 0],
+            safe::desk::Slot::Filling(serial) => [serial.into(), FILLING, 0],
+            safe::desk::Slot::Held {
+                serial,
+                preview,
+                capture,
+            } => {
+                let holders = u64::from(preview) * PREVIEW + u64::from(capture) * CAPTURE;
+                [serial.into(), HELD, holders]
+            }
+        }),
+    };
+    desk.numbers()
+}
+
+/// The consumer of a release or a look.
+fn consumer(n: &[u64]) -> Option<safe::desk::Consumer> {
+    match n[desk::NUMBERS + 1] {
+        PREVIEW => Some(safe::desk::Consumer::Preview),
+        CAPTURE => Some(safe::desk::Consumer::Capture),
+        _ => None,
+    }
+}
+
+fn take(n: &[u64]) -> Vec<u64> {
+    let mut desk = safe_desk(n);
+    let answer = safe::desk::take(&mut desk, n[desk::NUMBERS] as usize);
+    let front = match answer {
+        Ok(taken) => [0, taken.serial.into(), taken.slot as u64],
+        Err(refusal) => [refusal.0.into(), 0, 0],
+    };
+    [front.to_vec(), of_desk(desk)].concat()
+}
+
+fn publish(n: &[u64]) -> Vec<u64> {
+    let mut desk = safe_desk(n);
+    let (area, slot) = (n[desk::NUMBERS] as usize, n[desk::NUMBERS + 1] as usize);
+    let answer = safe::desk::publish(&mut desk, area, slot, n[desk::NUMBERS + 2] as u32);
+    [vec![refused(answer)], of_desk(desk)].concat()
+}
+
+fn release(n: &[u64]) -> Vec<u64> {
+    let mut desk = safe_desk(n);
+    let (area, slot) = (n[desk::NUMBERS] as usize, n[desk::NUMBERS + 2] as usize);
+    let consumer = consumer(n).expect("the call is plain");
+    let serial = n[desk::NUMBERS + 3] as u32;
+    let answer = safe::desk::release(&mut desk, area, consumer, slot, serial);
+    [vec![refused(answer)], of_desk(desk)].concat()
+}
+
+fn refused(answer: Result<(), Refusal>) -> u64 {
+    answer.err().map_or(0, |refusal| refusal.0.into())
 }
 
 /// The reports that are handed in.
@@ -105,6 +201,14 @@ fn of_numbers(name: Name, n: &[u64]) -> Answer {
         Name::Stepped => safe::stepped(n[0] as u16).map(step),
         Name::Together => {
             safe::report::together(&safe_report(n), &safe_report(&n[NUMBERS..])).map(report)
+        }
+        Name::FreshDesk => safe::desk::fresh(n[0] as u32).map(of_desk),
+        Name::Seen => {
+            let (area, slot) = (n[desk::NUMBERS] as usize, n[desk::NUMBERS + 2] as usize);
+            let consumer = consumer(n).expect("the call is plain");
+            let serial = n[desk::NUMBERS + 3] as u32;
+            safe::desk::seen(&safe_desk(n), area, consumer, slot, serial)
+                .map(|bytes| vec![bytes.start as u64, bytes.end as u64])
         }
         _ => panic!("{name:?} has a buffer"),
     }

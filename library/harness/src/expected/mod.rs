@@ -3,6 +3,7 @@
 //! the header's fields.
 
 mod assembly;
+mod desk;
 mod documentation;
 mod ground;
 mod number;
@@ -83,6 +84,11 @@ fn answer(call: &Call, lent: &mut [Lent]) -> Answer {
         Name::Elements => assembly::elements(n, lent),
         Name::WithLine => report::with_line(n, lent),
         Name::Together => report::together(n),
+        Name::FreshDesk => desk::fresh(n),
+        Name::Take => desk::take(n),
+        Name::Publish => desk::publish(n),
+        Name::Release => desk::release(n),
+        Name::Seen => desk::seen(n),
         Name::Version | Name::Fresh | Name::FreshAssembly | Name::EmptyReport => {
             unreachable!("they cannot be refused")
         }

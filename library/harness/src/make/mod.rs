@@ -6,6 +6,7 @@
 
 mod assembly;
 mod common;
+mod desk;
 mod documentation;
 mod ground;
 mod number;
@@ -121,6 +122,9 @@ impl Maker {
             Name::Elements => self.elements(faults),
             Name::WithLine => self.with_line(faults),
             Name::Together => self.together(faults),
+            Name::FreshDesk => self.fresh_desk(faults),
+            Name::Take => self.take(faults),
+            Name::Publish | Name::Release | Name::Seen => self.of_a_slot(name, faults),
         }
     }
 }
@@ -132,12 +136,13 @@ fn weight(name: Name) -> usize {
         Name::Version | Name::Fresh | Name::FreshAssembly | Name::EmptyReport => 1,
         Name::WriteLine | Name::Strip | Name::Answers => 4,
         Name::WithLine => 6,
-        Name::Joined | Name::PutSync | Name::Format => 10,
+        Name::Joined | Name::PutSync | Name::Format | Name::FreshDesk => 10,
         Name::PutData | Name::PutPixels | Name::PutPixelsWide => 12,
         Name::Accepted | Name::Data | Name::Pixels | Name::PixelsWide => 20,
         Name::Stepped | Name::Step | Name::LineNumbers => 20,
         Name::Filler | Name::ScanMode | Name::ScannerSelect | Name::SubCommutation => 30,
         Name::Date | Name::Revision | Name::Together => 40,
+        Name::Take | Name::Publish | Name::Release | Name::Seen => 40,
         Name::IntegerField | Name::BcdField | Name::RealField | Name::F64Field => 30,
         Name::Mapping | Name::Albedo | Name::AlbedoF64 => 40,
         Name::Temperature | Name::TemperatureF64 | Name::Elements => 40,

@@ -38,6 +38,7 @@ impl Maker {
         let numbers: Vec<u64> = match name {
             Name::WithLine => [vec![self.wild_number("format", 8)], self.wild_report()].concat(),
             Name::Together => [self.wild_report(), self.wild_report()].concat(),
+            Name::Take | Name::Publish | Name::Release | Name::Seen => self.wild_desk(name),
             _ => row.numbers.iter().map(each).collect(),
         };
         let lent = row.lent.iter().map(|part| self.wild_buffer(part));
@@ -62,6 +63,10 @@ impl Maker {
             // what some of the good lines have
             ("calibration", _) => self.dice.pick(&[0, 2_101, 2_102, 0xFFFF, any]),
             ("manam", _) => self.dice.pick(&[0, 731, 732, 0xFFFF, any]),
+            ("count", 32) => {
+                let near = self.dice.under(11) as u64;
+                self.dice.pick(&[near, near, near, any])
+            }
             (_, 8) => {
                 let low = self.dice.under(16) as u64;
                 self.dice.pick(&[low, low, low, any])

@@ -2,6 +2,7 @@
 
 mod assembling;
 pub mod blocks;
+pub mod desks;
 pub mod fillers;
 pub mod grid;
 pub mod ones;
@@ -28,6 +29,7 @@ pub fn run(bench: &mut Bench, maker: &mut Maker, rounds: u64) -> Result<(), Diff
         tables::run(bench, maker)?;
         ones::run(bench, maker)?;
         reports::run(bench, maker)?;
+        desks::run(bench, maker)?;
         fillers::run(bench, maker, round == 1)?;
     }
     Ok(())

@@ -20,12 +20,18 @@ fn bases(name: Name) -> usize {
     }
 }
 
-/// Of a report, which has many numbers, the powers of two that are tried.
-const FEW_POWERS: [u32; 6] = [0, 1, 16, 17, 32, 63];
+/// Of a report and a desk, which have many numbers, the powers of two that are
+/// tried.
+const FEW_POWERS: [u32; 8] = [0, 1, 3, 8, 16, 17, 32, 63];
 
 fn powers(name: Name, bits: u32) -> Vec<u32> {
     match name {
-        Name::WithLine | Name::Together => FEW_POWERS.into_iter().filter(|p| *p < bits).collect(),
+        Name::WithLine
+        | Name::Together
+        | Name::Take
+        | Name::Publish
+        | Name::Release
+        | Name::Seen => FEW_POWERS.into_iter().filter(|p| *p < bits).collect(),
         _ => (0..bits).collect(),
     }
 }

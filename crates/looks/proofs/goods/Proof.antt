@@ -1,8 +1,8 @@
--- `listing::goods` is safe and ends. Assumes nothing.
+-- `looks::goods` is safe and ends. Assumes nothing.
 use Prim.Native.Nat.{_-_, _≤_}
 use borrow.Author.Needs.{needs}
-use Rattle.listing.proofs.goods.Statement.{statement}
-use Rattle.listing.proofs.goods.Tie as tie
+use Rattle.looks.proofs.goods.Statement.{statement}
+use Rattle.looks.proofs.goods.Tie as tie
 
 abbrev Inv-loop : tie.InvT-loop
 Inv-loop format line answers n₀ i₀ n i = (i ≤ 12)

@@ -1,0 +1,9 @@
+pub mod Places
+pub mod Exchanged
+pub mod EndToEnd
+pub mod Seen
+pub mod Pixels
+pub mod Standing
+pub mod Serving
+pub mod Feeds
+pub mod Class

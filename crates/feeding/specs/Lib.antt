@@ -1,0 +1,5 @@
+pub mod Area
+pub mod Fed
+pub mod Feeder
+pub mod Spared
+pub mod OneLine

@@ -1,0 +1,10 @@
+pub mod Steps
+pub mod Past
+pub mod Exactly
+pub mod Serials
+pub mod Others
+pub mod StaysPossible
+pub mod Once
+pub mod Holding
+pub mod Accepts
+pub mod Refused
