@@ -4,8 +4,6 @@
 //
 // It keeps one area, one piece of the recording and one desk, however long the recording is. What a holder reads is proved of
 // `reader`, `desk` and `feeding`; of its own functions it is proved that they are safe and end.
-ghost use Prim.Native.Nat.{_<_, _≤_};
-ghost use lib.ListN.{length};
 ghost use Rattle.player.specs.Places.{Places};
 use desk_record::Desk;
 use player::Player;
@@ -212,8 +210,9 @@ fn idle(p: Player, d: Desk, waits: u64, written: bool) -> Fed
     }
 }
 
-// The feeder's turn: it takes a slot, fills it and publishes the line. Where no slot is free it waits; once the recording is at its
-// end it does nothing more.
+// The feeder's turn: it takes a slot, fills it and publishes the line. Where no slot is free it waits; where a take is refused for
+// another reason, as with the last serial number, the class ends without its last rows. Once the recording is at its end it does
+// nothing more.
 fn feed(p: Player, d: Desk, time: u64, piece: &mut [u8; player::PIECE], area: &mut [u8]) -> Fed
     requires { ⌜ Places p ⌝ }
     ensures { λ r. ⌜ Places (r .player) ⌝ }
@@ -227,7 +226,7 @@ fn feed(p: Player, d: Desk, time: u64, piece: &mut [u8; player::PIECE], area: &m
         return idle(p, taken, 0, false);
     }
     if t.refused != 0 {
-        return idle(p, taken, 1, true);
+        return idle(p, taken, 1, t.refused == refusals::NO_SLOT);
     }
     let q = filled(p, piece, area, t.slot);
     if !q.whole {

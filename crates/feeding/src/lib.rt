@@ -8,6 +8,7 @@
 //   Standing   a line stands whole in its slot until a call finds a tail with that slot lent
 //   Serving    in such a run nothing is refused that should not be
 //   Feeds      every recording has such a run, to its last byte
+//   Class      the same of the feeder's protocol over a recording in pieces
 //
 // The one function here is the feeder's read: a slot of the area lent to the reader.
 ghost use mathlib.Core.Path.{_≡_};

@@ -6,5 +6,6 @@ pub mod Others
 pub mod StaysPossible
 pub mod Once
 pub mod Holding
+pub mod Apart
 pub mod Accepts
 pub mod Refused

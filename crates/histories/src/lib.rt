@@ -8,6 +8,7 @@
 //   Serials        serial numbers are 1, 2, 3 and so on, and never repeat
 //   Others         a release leaves every hold of everybody else
 //   Holding        a hold stays until its own release
+//   Apart          what one consumer releases alters nothing that the other may read
 //   Once           no release is accepted twice
 //   StaysPossible  no call leads from a possible desk to an impossible one
 //   Accepts        when a call is accepted

@@ -1,9 +1,9 @@
 //! The timetable of a class. What must come was worked out by hand from the words
 //! in `class.rs`; the sums are those of the pattern's pixels.
 
-use std::io::Write;
-use std::process::{Command, Output, Stdio};
+mod common;
 
+use common::outcome;
 use second::{class, damage, pattern};
 
 /// The sum of the joined pixels of IR1 in line k of the pattern.
@@ -123,21 +123,6 @@ fn nothing_is_published() {
     assert_eq!(rows(1, 2, [0, 0], &[]), ["waits 0", "total 0"]);
     let noise = ["time 1 feeder takes slot 0 serial 1", "waits 0", "total 0"];
     assert_eq!(rows(2, 8, [5, 0], &[7; 100]), noise);
-}
-
-fn outcome(words: &[&str], input: Vec<u8>) -> Output {
-    let mut child = Command::new(env!("CARGO_BIN_EXE_second"))
-        .args(words)
-        .stdin(Stdio::piped())
-        .stdout(Stdio::piped())
-        .stderr(Stdio::piped())
-        .spawn()
-        .unwrap();
-    let mut stdin = child.stdin.take().unwrap();
-    let feeder = std::thread::spawn(move || stdin.write_all(&input));
-    let output = child.wait_with_output().unwrap();
-    let _ = feeder.join();
-    output
 }
 
 #[test]

@@ -5,9 +5,9 @@
 //! Where 15 stands among the other refusals is tested with them, in
 //! `refusals.rs`.
 
-use std::io::Write;
-use std::process::{Command, Output, Stdio};
+mod common;
 
+use common::outcome;
 use second::bits;
 use second::damage::{self, has_wrong_check, has_wrong_id, Random};
 use second::format::LINE_BYTES;
@@ -483,21 +483,6 @@ fn damaged_rows() -> String {
     let ir4 = [pattern::pixels(12, 0), pattern::pixels(12, 1)].concat();
     let none = "IR3 pixels 0 sum 0 least none largest none\n";
     DAMAGED.to_string() + &row("IR1", &ir1) + &row("IR2", &ir2) + none + &row("IR4", &ir4)
-}
-
-fn outcome(words: &[&str], input: Vec<u8>) -> Output {
-    let mut child = Command::new(env!("CARGO_BIN_EXE_second"))
-        .args(words)
-        .stdin(Stdio::piped())
-        .stdout(Stdio::piped())
-        .stderr(Stdio::piped())
-        .spawn()
-        .unwrap();
-    let mut stdin = child.stdin.take().unwrap();
-    let feeder = std::thread::spawn(move || stdin.write_all(&input));
-    let output = child.wait_with_output().unwrap();
-    let _ = feeder.join();
-    output
 }
 
 /// The text of a program that ends well without a word of trouble.

@@ -1,9 +1,9 @@
 //! What is written reads back the same, and nothing else changes; the test
 //! pattern through every call; the program's output.
 
-use std::io::Write;
-use std::process::{Command, Output, Stdio};
+mod common;
 
+use common::outcome;
 use second::bits;
 use second::blocks::{self, Added, Assembly, ALL_MARKS, BLOCKS};
 use second::damage::{self, Random};
@@ -392,21 +392,6 @@ fn run(words: &[&str], input: Vec<u8>) -> Vec<u8> {
     let output = outcome(words, input);
     assert!(output.status.success());
     output.stdout
-}
-
-fn outcome(words: &[&str], input: Vec<u8>) -> Output {
-    let mut child = Command::new(env!("CARGO_BIN_EXE_second"))
-        .args(words)
-        .stdin(Stdio::piped())
-        .stdout(Stdio::piped())
-        .stderr(Stdio::piped())
-        .spawn()
-        .unwrap();
-    let mut stdin = child.stdin.take().unwrap();
-    let feeder = std::thread::spawn(move || stdin.write_all(&input));
-    let output = child.wait_with_output().unwrap();
-    let _ = feeder.join();
-    output
 }
 
 #[test]

@@ -2,10 +2,13 @@
 //! and possible ones with anything where nothing is said. The suite of desks tries
 //! what it says, knows by itself what must come, and notices a wrong library alone.
 
+mod common;
+
 use std::cell::RefCell;
 use std::collections::{BTreeMap, BTreeSet};
 use std::rc::Rc;
 
+use common::said_by;
 use harness::bench::Bench;
 use harness::call::{Call, Outcome};
 use harness::desk::{Desk, NUMBERS};
@@ -179,20 +182,9 @@ fn holds_are_missing_in_every_way() {
     assert_eq!(Vec::from_iter(ways), expected);
 }
 
-/// What is said of a library that does as the right one, but for what is done to
-/// a call before it and to its outcome behind it.
+/// What the suite says of a wrong library.
 fn said_of(before: fn(&mut Call), behind: fn(&Call, &mut Outcome)) -> String {
-    let mut bench = Bench::of(move |call| {
-        let mut handed = call.clone();
-        before(&mut handed);
-        let mut outcome = expected(&handed);
-        behind(call, &mut outcome);
-        outcome
-    });
-    match desks::run(&mut bench, &mut Maker::new(94)) {
-        Ok(()) => "nothing".to_string(),
-        Err(difference) => difference.0,
-    }
+    said_by(desks::run, 94, before, behind)
 }
 
 #[test]

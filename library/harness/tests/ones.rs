@@ -2,10 +2,13 @@
 //! must come, and a library that takes a start value wrongly is noticed by it
 //! alone.
 
+mod common;
+
 use std::cell::RefCell;
 use std::collections::BTreeSet;
 use std::rc::Rc;
 
+use common::said_by;
 use harness::bench::Bench;
 use harness::call::{Call, Outcome};
 use harness::expected::expected;
@@ -57,20 +60,9 @@ fn every_call_is_asked_of_both_cards() {
     assert!(calls < 2_000, "{calls} calls");
 }
 
-/// What is said of a library that does as the right one, but for what is done to
-/// a call before it and to its outcome behind it.
+/// What the suite says of a wrong library.
 fn said_of(before: fn(&mut Call), behind: fn(&Call, &mut Outcome)) -> String {
-    let mut bench = Bench::of(move |call| {
-        let mut handed = call.clone();
-        before(&mut handed);
-        let mut outcome = expected(&handed);
-        behind(call, &mut outcome);
-        outcome
-    });
-    match ones::run(&mut bench, &mut Maker::new(72)) {
-        Ok(()) => "nothing".to_string(),
-        Err(difference) => difference.0,
-    }
+    said_by(ones::run, 72, before, behind)
 }
 
 fn nothing_before(_: &mut Call) {}

@@ -2,10 +2,13 @@
 //! edge, and possible ones come up to the edge. The suite of reports tries what it
 //! says, knows by itself what must come, and notices a wrong library alone.
 
+mod common;
+
 use std::cell::RefCell;
 use std::collections::{BTreeMap, BTreeSet};
 use std::rc::Rc;
 
+use common::said_by;
 use harness::bench::Bench;
 use harness::call::{Call, Outcome};
 use harness::expected::expected;
@@ -161,20 +164,9 @@ fn lines_come_for_reports_of_every_size() {
     assert!(lines(&Faults::of(&[12, 15])).contains(&100_000));
 }
 
-/// What is said of a library that does as the right one, but for what is done to
-/// a call before it and to its outcome behind it.
+/// What the suite says of a wrong library.
 fn said_of(before: fn(&mut Call), behind: fn(&Call, &mut Outcome)) -> String {
-    let mut bench = Bench::of(move |call| {
-        let mut handed = call.clone();
-        before(&mut handed);
-        let mut outcome = expected(&handed);
-        behind(call, &mut outcome);
-        outcome
-    });
-    match reports::run(&mut bench, &mut Maker::new(85)) {
-        Ok(()) => "nothing".to_string(),
-        Err(difference) => difference.0,
-    }
+    said_by(reports::run, 85, before, behind)
 }
 
 /// Changes the report of a call that is served.
