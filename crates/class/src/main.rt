@@ -91,14 +91,23 @@ fn onward(c: Consumer, slot: usize) -> Consumer {
     }
 }
 
+// What a consumer sees, and that it releases; false where the row cannot be written.
+fn sees(d: Desk, c: Consumer, slot: usize, time: u64, format: u8, area: &[u8]) -> bool {
+    let part = desk::seen(d, AREA, c.number, slot, c.next);
+    let row = rows::placed(rows::of(time, c.number, b"sees"), slot, c.next);
+    looks::shown(row, format, area, part.from, part.to).write()
+}
+
+fn releases(time: u64, consumer: u8, slot: usize, serial: u32, refused: u8) -> bool {
+    let row = rows::placed(rows::of(time, consumer, b"releases"), slot, serial);
+    rows::answered(row, refused).write()
+}
+
 // A consumer sees its next line, which stands in a slot, and releases it.
 fn works(d: Desk, c: Consumer, slot: usize, time: u64, format: u8, area: &[u8]) -> Turned {
-    let part = desk::seen(d, AREA, c.number, slot, c.next);
-    let sees = rows::placed(rows::of(time, c.number, b"sees"), slot, c.next);
-    let seen = looks::shown(sees, format, area, part.from, part.to).write();
+    let seen = sees(d, c, slot, time, format, area);
     let a = desk::release(d, AREA, c.number, slot, c.next);
-    let releases = rows::placed(rows::of(time, c.number, b"releases"), slot, c.next);
-    let released = rows::answered(releases, a.refused).write();
+    let released = releases(time, c.number, slot, c.next, a.refused);
     let after = a.desk;
     Turned {
         desk: after,
@@ -151,8 +160,7 @@ fn again(d: Desk, c: Consumer, time: u64) -> bool {
     }
     let last = c.next - 1;
     let a = desk::release(d, AREA, c.number, c.slot, last);
-    let releases = rows::placed(rows::of(time, c.number, b"releases"), c.slot, last);
-    rows::answered(releases, a.refused).write()
+    releases(time, c.number, c.slot, last, a.refused)
 }
 
 // On to the next complete line, in a slot of the area; the feeder took the slot, so it is one of the eight.
@@ -399,17 +407,10 @@ fn served(asked: Asked, usage: &[u8]) -> bool {
     is_lag(asked.third, usage)
 }
 
-fn main() {
-    let usage = USAGE;
+// A class by words that are served, over the recording that they name.
+fn begin(asked: Asked, usage: &[u8]) {
     let mut area = [0u8; AREA];
     let mut piece = [0u8; player::PIECE];
-    let asked = command::asked_for(Takes {
-        names: 4,
-        setting: true,
-    });
-    if !served(asked, &usage) {
-        return;
-    }
     let fresh = desk::fresh(command::number_at(asked.first, 0) as usize);
     if fresh.refused != 0 {
         text::empty()
@@ -418,7 +419,7 @@ fn main() {
             .tell();
         return;
     }
-    let p = player::named(asked, asked.fourth, &usage, &mut piece);
+    let p = player::named(asked, asked.fourth, usage, &mut piece);
     let empty = fresh.desk;
     let begun = Class {
         player: p,
@@ -431,4 +432,15 @@ fn main() {
         written: true,
     };
     play(begun, &mut piece, &mut area);
+}
+
+fn main() {
+    let usage = USAGE;
+    let asked = command::asked_for(Takes {
+        names: 4,
+        setting: true,
+    });
+    if served(asked, &usage) {
+        begin(asked, &usage);
+    }
 }
