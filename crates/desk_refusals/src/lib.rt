@@ -3,6 +3,9 @@
 // The contracts cite `specs/Asked.antt`. All functions here are inner; some ask for a count of at most 8, which the first test sees to.
 ghost use mathlib.Core.Path.{_≡_};
 ghost use Prim.Native.Nat.{_≤_};
+ghost use lib.Dec.{leb};
+ghost use Rattle.refusals.specs.Refusals.{when};
+ghost use Rattle.desk_record.specs.Desks.{lowestOf, lastSerial};
 ghost use Rattle.desk_refusals.specs.Asked.{countRefusal, slotRefusal, restRefusal, noneRefusal, takeRefusal, publishRefusal, releaseRefusal};
 use desk_record::Desk;
 use desk_record::LAST_SERIAL;
@@ -13,6 +16,7 @@ use desk_record::held_by;
 use desk_whole::lowest;
 use desk_whole::possible;
 use formats::Format;
+use refusals::first;
 
 // Inner. 19 where the count is not 2 to 8; else 0.
 pub fn count_refusal(d: Desk) -> u8
@@ -55,18 +59,34 @@ pub fn rest_refusal(d: Desk, area: usize) -> u8
     0
 }
 
+// Inner. 18 where serial numbers are used up; else 0.
+fn serial_refusal(last: u32) -> u8
+    ensures { λ r. ⌜ r ≡ when (leb lastSerial last) 18 ⌝ }
+{
+    if last >= LAST_SERIAL {
+        refusals::NO_SERIAL
+    } else {
+        0
+    }
+}
+
+// Inner. 16 where no slot is free; else 0.
+fn free_refusal(d: Desk) -> u8
+    requires { ⌜ d .count ≤ 8 ⌝ }
+    ensures { λ r. ⌜ r ≡ when (leb (d .count) (lowestOf d)) 16 ⌝ }
+{
+    let i = lowest(d);
+    if i >= d.count { refusals::NO_SLOT } else { 0 }
+}
+
 // Inner. 18 where serial numbers are used up; 16 where they are not and no slot is free; else 0.
 pub fn none_refusal(d: Desk) -> u8
     requires { ⌜ d .count ≤ 8 ⌝ }
     ensures { λ r. ⌜ r ≡ noneRefusal d ⌝ }
 {
-    if d.last >= LAST_SERIAL {
-        return refusals::NO_SERIAL;
-    }
-    if lowest(d) >= d.count {
-        return refusals::NO_SLOT;
-    }
-    0
+    let used_up = serial_refusal(d.last);
+    let full = free_refusal(d);
+    first(used_up, full)
 }
 
 // Inner. The refusals of `take`, in their order; 0 where none applies.

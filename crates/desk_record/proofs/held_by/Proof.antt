@@ -21,7 +21,9 @@ returns-2 : tie.Need-returns-2
 returns-2 c = search needs
 
 returns-3 : tie.Need-returns-3
-returns-3 c = rw (c .before .before .before .u .given .1, eq-eqb _ _ (c .before .if1 .taken), eq-eqb _ _ (c .if2 .taken)) refl
+returns-3 c =
+    let found = c .before .before .before in
+    rw (found .u .given .1, eq-eqb _ (found .before .before .args .n) (c .before .if1 .taken), eq-eqb _ _ (c .if2 .taken)) refl
 
 returns-4 : tie.Need-returns-4
 returns-4 c =
