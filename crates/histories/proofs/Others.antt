@@ -13,6 +13,7 @@ use Rattle.desk_record.specs.declared.Desk.{Desk}
 use Rattle.desk_record.specs.Slots.{slotOf, ofBoth, heldBy, heldOr, letGo}
 use Rattle.desk_record.specs.Desks.{withSlot}
 use Rattle.desk.specs.Calls.{releaseAnswer}
+use Rattle.histories.proofs.Past.{and-true}
 use Rattle.histories.proofs.Steps.{slot-same, slot-other, release-kept, released-it}
 
 -- in the slot itself
@@ -33,17 +34,13 @@ others-hold b c n (Held m p q) h = go (eqb b 1) refl (eqb b 2) refl
         none true false true = refl
         none true false false = refl
 
-    stays : (x : Bool) → x && true ≡ x
-    stays true = refl
-    stays false = refl
-
     go : (s : Bool) → eqb b 1 ≡ s → (t : Bool) → eqb b 2 ≡ t → heldBy b n (heldOr m (p && not (eqb c 1)) (q && not (eqb c 2))) ≡ (eqb m n && ofBoth b p q)
     go true e t f =
         part (p && not (eqb c 1)) (q && not (eqb c 2))
-        ∙ rw (e, ne-eqb c 1 (λ z. h (eqb-true b 1 e ∙ sym z)), stays p) refl
+        ∙ rw (e, ne-eqb c 1 (λ z. h (eqb-true b 1 e ∙ sym z)), and-true p) refl
     go false e true f =
         part (p && not (eqb c 1)) (q && not (eqb c 2))
-        ∙ rw (e, f, ne-eqb c 2 (λ z. h (eqb-true b 2 f ∙ sym z)), stays q) refl
+        ∙ rw (e, f, ne-eqb c 2 (λ z. h (eqb-true b 2 f ∙ sym z)), and-true q) refl
     go false e false f = part (p && not (eqb c 1)) (q && not (eqb c 2)) ∙ rw (e, f) refl
 
 -- in every slot, accepted or refused

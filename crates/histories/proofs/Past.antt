@@ -71,7 +71,7 @@ none-of : (a b : Bool) → a && (false && b) ≡ false
 none-of true b = refl
 none-of false b = refl
 
-and-true : (a : Bool) → a && true ≡ a
+pub and-true : (a : Bool) → a && true ≡ a
 and-true true = refl
 and-true false = refl
 
@@ -189,11 +189,7 @@ says-release d log area c i n l h s f j = go (eqb i j) refl
         go′ : (r : Bool) → not r && false ≡ false
         go′ true = refl
         go′ false = refl
-    left r false = go′ r
-      where
-        go′ : (r : Bool) → not r && true ≡ not r
-        go′ true = refl
-        go′ false = refl
+    left r false = and-true (not r)
 
     r : ℕ → Bool
     r b = isReleased b i n (since i log)
