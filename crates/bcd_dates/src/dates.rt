@@ -6,7 +6,7 @@ use crate::decimals::{four_digits, part_refusal, two_digits};
 use refusals::first;
 
 // Year 0 to 9,999, month 1 to 12, day 1 to 31 in every month, hour 0 to 23, minute and second 0 to 59, hundredths 0 to 99.
-#[derive(Drop)]
+#[derive(Clone, Copy)]
 pub struct DateTime {
     pub year: u16,
     pub month: u8,

@@ -6,7 +6,7 @@ use crate::marks::Marks;
 
 // The numbers by which a documentation sector names its tables: the calibration table ID, sector bytes 28-29, and the MANAM
 // revision, 30-31.
-#[derive(Drop)]
+#[derive(Clone, Copy)]
 pub struct Revisions {
     pub calibration: u16,
     pub manam: u16,
@@ -14,7 +14,7 @@ pub struct Revisions {
 
 // What an assembly keeps between calls: its marks, and the numbers of the line that brought its first segment. While no segment
 // is marked the numbers have no meaning.
-#[derive(Drop)]
+#[derive(Clone, Copy)]
 pub struct Assembly {
     pub marks: Marks,
     pub revisions: Revisions,

@@ -14,7 +14,7 @@ pub const CALIBRATION_1: u8 = 4;
 pub const CALIBRATION_2: u8 = 5;
 
 // A block: its bytes in all, and the sector byte, from 1 and with the ID, at which its segments start.
-#[derive(Drop)]
+#[derive(Clone, Copy)]
 pub struct Block {
     pub size: usize,
     pub first: usize,

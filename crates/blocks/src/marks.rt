@@ -3,7 +3,7 @@ ghost use Rattle.std.specs.Prelude.{◌≡◌, ◌≤◌};
 ghost use Rattle.blocks.specs.Marking.{marked, with_mark, marks_refusal, unfinished_refusal};
 
 // The marks of an assembly: bit s is set once segment s is stored. A record with a mark above 24 is impossible.
-#[derive(Drop)]
+#[derive(Clone, Copy)]
 pub struct Marks {
     pub segments: u32,
 }

@@ -17,7 +17,7 @@ use numbers::{R, Real};
 
 // A table of four channels: the byte at which it starts, the levels of one channel, and the decimal places of its R*4
 // numbers.
-#[derive(Drop)]
+#[derive(Clone, Copy)]
 pub struct Levels {
     pub first: usize,
     pub levels: u16,
@@ -25,27 +25,27 @@ pub struct Levels {
 }
 
 // A level with the revision of its block, the calibration table ID.
-#[derive(Drop)]
+#[derive(Clone, Copy)]
 pub struct LevelValue {
     pub value: R,
     pub revision: u16,
 }
 
 // The answer to a level.
-#[derive(Drop)]
+#[derive(Clone, Copy)]
 pub enum Level {
     Is(LevelValue),
     Refused(u8),
 }
 
 // The same in f64.
-#[derive(Drop)]
+#[derive(Clone, Copy)]
 pub struct LevelF64Value {
     pub value: f64,
     pub revision: u16,
 }
 
-#[derive(Drop)]
+#[derive(Clone, Copy)]
 pub enum LevelF64 {
     Is(LevelF64Value),
     Refused(u8),

@@ -38,7 +38,7 @@ const AREA: usize = 354848;
 const LINE: usize = 44356;
 
 // A consumer: its number at the desk, how many line times it lags, the serial number of its next line, and the slot of its last one.
-#[derive(Drop)]
+#[derive(Clone, Copy)]
 struct Consumer {
     number: u8,
     lag: u64,
@@ -47,7 +47,7 @@ struct Consumer {
 }
 
 // What a turn of consumers leaves: the desk, the consumer, and whether the rows could be written.
-#[derive(Drop)]
+#[derive(Clone, Copy)]
 struct Turned {
     desk: Desk,
     consumer: Consumer,
@@ -55,7 +55,7 @@ struct Turned {
 }
 
 // What both leave.
-#[derive(Drop)]
+#[derive(Clone, Copy)]
 struct Seen {
     desk: Desk,
     preview: Consumer,
@@ -196,7 +196,7 @@ fn published(time: u64, refused: u8, slot: usize, serial: u32) -> bool {
 
 // What the feeder's turn leaves: the playing of the recording and the desk; the slot and serial number of the line that it published,
 // serial 0 where it published none; 1 where it waited; and whether its rows could be written.
-#[derive(Drop)]
+#[derive(Clone, Copy)]
 struct Fed {
     player: Player,
     desk: Desk,
@@ -281,7 +281,7 @@ fn arrived(number: u8, lag: u64) -> Consumer {
 
 // How a class stands after a line time: the playing of the recording, the desk, the consumers; how often the feeder waited, how many
 // lines are published, the line time, and whether all rows could be written.
-#[derive(Drop)]
+#[derive(Clone, Copy)]
 struct Class {
     player: Player,
     desk: Desk,

@@ -14,7 +14,7 @@ fn step(rem: u16, bit: u8) -> u16
 }
 
 // A remainder, and what is left of the start value behind the bits that it is of.
-#[derive(Drop)]
+#[derive(Clone, Copy)]
 pub struct Running {
     pub rem: u16,
     pub start: u16,

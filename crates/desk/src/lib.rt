@@ -21,7 +21,7 @@ pub const CAPTURE: u8 = 2;
 
 // The answer of `take`: refused with a number, or 0; the slot taken and its serial number; the desk after the call, as it was where
 // the call is refused.
-#[derive(Drop)]
+#[derive(Clone, Copy)]
 pub struct Taken {
     pub refused: u8,
     pub slot: usize,
@@ -30,14 +30,14 @@ pub struct Taken {
 }
 
 // The answer of a call that changes the desk.
-#[derive(Drop)]
+#[derive(Clone, Copy)]
 pub struct Changed {
     pub refused: u8,
     pub desk: Desk,
 }
 
 // The answer of `seen`: the part of the area that a holder may read, from its first byte to before its last.
-#[derive(Drop)]
+#[derive(Clone, Copy)]
 pub struct Part {
     pub refused: u8,
     pub from: usize,

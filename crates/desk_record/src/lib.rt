@@ -17,7 +17,7 @@ pub const LAST_SERIAL: u32 = 4294967295;
 
 // What a slot is used for, and it is one of three: nothing; a line being filled under a serial number; or a line held under one, by
 // preview, by capture or by both. So no slot is in two states.
-#[derive(Drop)]
+#[derive(Clone, Copy)]
 pub enum Use {
     Free,
     Filling(u32),
@@ -29,14 +29,14 @@ pub enum Use {
 }
 
 // One slot.
-#[derive(Drop)]
+#[derive(Clone, Copy)]
 pub struct Slot {
     pub used: Use,
 }
 
 // The desk: the number of slots, 2 to 8; the last serial number given, 0 before the first; the slots, of which those past the count
 // do not exist: no call looks at them, and each gives them back as they stand.
-#[derive(Drop)]
+#[derive(Clone, Copy)]
 pub struct Desk {
     pub count: usize,
     pub last: u32,

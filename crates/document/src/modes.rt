@@ -5,7 +5,7 @@ ghost use Rattle.document.specs.Modes.{mode_of, ScanModeOk, mirror_of, ScannerSe
 use crate::place::{doc_byte, doc_refusal};
 
 // How the scan goes: full disk, the preset lines only, or a single line.
-#[derive(Drop)]
+#[derive(Clone, Copy)]
 pub enum ScanMode {
     Full,
     Limited,
@@ -14,14 +14,14 @@ pub enum ScanMode {
 }
 
 // The answer to the scan mode.
-#[derive(Drop)]
+#[derive(Clone, Copy)]
 pub enum Scan {
     Is(ScanMode),
     Refused(u8),
 }
 
 // Which mirror scans: 1-A, 1-B, 2-A or 2-B.
-#[derive(Drop)]
+#[derive(Clone, Copy)]
 pub enum Mirror {
     OneA,
     OneB,
@@ -31,7 +31,7 @@ pub enum Mirror {
 }
 
 // The answer to scanner select.
-#[derive(Drop)]
+#[derive(Clone, Copy)]
 pub enum Scanner {
     Is(Mirror),
     Refused(u8),

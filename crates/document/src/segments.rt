@@ -5,7 +5,7 @@ ghost use Rattle.document.specs.Segments.{segment_refusal, SubCommutationOk};
 use crate::place::{doc_byte, doc_refusal};
 
 // The answer to the sub-commutation bytes: the segment from 0 to 24, and the repeat from 0 to 7.
-#[derive(Drop)]
+#[derive(Clone, Copy)]
 pub enum SubCommutation {
     Is { segment: u8, repeat: u8 },
     Refused(u8),

@@ -5,7 +5,7 @@ use bcd_dates::dates::{DateTime, date_in, date_refusal};
 use document::place::doc_refusal;
 
 // The answer to the date.
-#[derive(Drop)]
+#[derive(Clone, Copy)]
 pub enum Dated {
     Is(DateTime),
     Refused(u8),

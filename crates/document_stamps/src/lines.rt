@@ -8,7 +8,7 @@ use document::place::doc_refusal;
 use refusals::first;
 
 // Line numbers from 0 to 9,999; the position of the line in the picture lies from -9,999 to 9,999.
-#[derive(Drop)]
+#[derive(Clone, Copy)]
 pub struct LineNumbers {
     pub set_line: u16,
     pub reset_line: u16,
@@ -17,7 +17,7 @@ pub struct LineNumbers {
 }
 
 // The answer to the line numbers.
-#[derive(Drop)]
+#[derive(Clone, Copy)]
 pub enum Numbered {
     Is(LineNumbers),
     Refused(u8),

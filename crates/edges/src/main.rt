@@ -18,7 +18,7 @@ const LINE: usize = 44356;
 
 // A run of calls: the place of the next byte, the record, the lines handed out; and of the last one the bytes taken up to
 // it and the bits of the last byte that were still unread.
-#[derive(Drop)]
+#[derive(Clone, Copy)]
 struct Run {
     at: usize,
     state: State,

@@ -9,7 +9,7 @@ use grid_points::{Grid, grid_at};
 use refusals::first;
 
 // The answer to a point.
-#[derive(Drop)]
+#[derive(Clone, Copy)]
 pub enum Mapped {
     Is(Grid),
     Refused(u8),

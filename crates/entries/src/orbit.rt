@@ -8,7 +8,7 @@ use blocks::block::ORBIT;
 
 // The orbital elements, in the order of source 000's table 12, words 157 to 198: epoch (MJD), semi-major axis (km),
 // eccentricity, inclination, longitude of the ascending node, argument of perigee, mean anomaly (degrees).
-#[derive(Drop)]
+#[derive(Clone, Copy)]
 pub struct Orbit {
     pub epoch: f64,
     pub axis: f64,
@@ -20,7 +20,7 @@ pub struct Orbit {
 }
 
 // The answer to the elements.
-#[derive(Drop)]
+#[derive(Clone, Copy)]
 pub enum Orbital {
     Is(Orbit),
     Refused(u8),

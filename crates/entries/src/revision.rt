@@ -7,7 +7,7 @@ use blocks::assembly::{Assembly, revision_of};
 use blocks::block::{CALIBRATION_2, MANAM};
 
 // The answer to a block's revision.
-#[derive(Drop)]
+#[derive(Clone, Copy)]
 pub enum Revised {
     Is(u16),
     Refused(u8),

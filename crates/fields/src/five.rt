@@ -6,7 +6,7 @@ use text::Row;
 
 // What is kept of a block: the record of its assembly, what it answered to the last segment, 0 or a refusal, and how many lines
 // it refused as of a foreign revision.
-#[derive(Drop)]
+#[derive(Clone, Copy)]
 pub struct Kept {
     pub marks: u32,
     pub calibration: u16,
@@ -16,7 +16,7 @@ pub struct Kept {
 }
 
 // That of the five, each at its number from 1 to 5; how many lines there were; and whether their rows could be written.
-#[derive(Drop)]
+#[derive(Clone, Copy)]
 pub struct Five {
     pub kept: [Kept; 6],
     pub lines: u64,

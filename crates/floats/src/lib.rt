@@ -10,7 +10,7 @@ ghost use Rattle.floats.specs.Floats.{Fits, FitsIn, value_of, as_float, ReadF64O
 use numbers::{R, Real, read_real};
 
 // The answer to R*n.m in f64.
-#[derive(Drop)]
+#[derive(Clone, Copy)]
 pub enum Float {
     Is(f64),
     Refused(u8),

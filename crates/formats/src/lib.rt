@@ -7,7 +7,7 @@ ghost use Rattle.formats.specs.Formats.{svissr, hirid, svissr_ones, format_refus
 
 // A format: its number, the bits of the three parts of one line on the wire, the bytes of them all, and the start value of
 // the check of its sectors.
-#[derive(Drop)]
+#[derive(Clone, Copy)]
 pub struct Format {
     pub number: u8,
     pub sync: usize,
@@ -18,7 +18,7 @@ pub struct Format {
 }
 
 // The answer to a format number.
-#[derive(Drop)]
+#[derive(Clone, Copy)]
 pub enum FormatAnswer {
     Is(Format),
     Refused(u8),

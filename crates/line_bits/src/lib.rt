@@ -20,7 +20,7 @@ fn low(byte: u8, n: u8) -> u8
 
 // Inner. What reading a line gives: complete, with the bytes taken and the unread bits of the last; or in part, with all
 // bytes taken.
-#[derive(Drop)]
+#[derive(Clone, Copy)]
 pub enum Filled {
     Whole {
         taken: usize,

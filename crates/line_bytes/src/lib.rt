@@ -57,7 +57,7 @@ fn whole(bytes: usize, left: u8, place: usize) -> usize
 
 // Inner. How far whole bytes of a line went: the bytes of the piece taken, the last of them, of which as many low bits are
 // unread as before, and the line's next place with its register.
-#[derive(Drop)]
+#[derive(Clone, Copy)]
 pub struct Span {
     pub taken: usize,
     pub byte: u8,

@@ -13,7 +13,7 @@ use numbers::{form_refusal, sign_weight};
 use octets::put_whole;
 
 // The answer to a write.
-#[derive(Drop)]
+#[derive(Clone, Copy)]
 pub enum Put {
     Done,
     Refused(u8),

@@ -16,21 +16,21 @@ ghost use Rattle.numbers.specs.Reals.{form_refusal, sign_bit, ReadRealOk};
 use octets::whole;
 
 // The answer to I*n.
-#[derive(Drop)]
+#[derive(Clone, Copy)]
 pub enum Integer {
     Is(u32),
     Refused(u8),
 }
 
 // The answer to BCD*n.
-#[derive(Drop)]
+#[derive(Clone, Copy)]
 pub enum Bcd {
     Is(u64),
     Refused(u8),
 }
 
 // An R number as it stands in its bytes: sign, magnitude, decimal places. A negative zero is one of its values.
-#[derive(Drop)]
+#[derive(Clone, Copy)]
 pub struct R {
     pub negative: bool,
     pub magnitude: u64,
@@ -38,7 +38,7 @@ pub struct R {
 }
 
 // The answer to R*n.m.
-#[derive(Drop)]
+#[derive(Clone, Copy)]
 pub enum Real {
     Is(R),
     Refused(u8),

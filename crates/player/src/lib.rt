@@ -19,7 +19,7 @@ pub const PIECE: usize = 65536;
 
 // Where the playing stands: the file, the format, the setting, the reader's record, the bytes of the piece that are still to read, and
 // whether a line is complete (whole), the recording is at its end (not more), and that is not its own end (failed).
-#[derive(Drop)]
+#[derive(Clone, Copy)]
 pub struct Player {
     pub fd: i32,
     pub format: u8,

@@ -22,7 +22,7 @@ use segments::Added;
 // What an assembly keeps between calls, without gaps and in widths that no machine changes, since a caller may store it: bit s of
 // `marks` is set once segment s is stored; calibration table ID and MANAM revision are those of the line that brought the first.
 #[repr(C)]
-#[derive(Drop)]
+#[derive(Clone, Copy)]
 pub struct AssemblyRecord {
     pub marks: u32,
     pub calibration: u16,
@@ -32,7 +32,7 @@ pub struct AssemblyRecord {
 // A segment added: the segment, whether this was its first copy, and the record for the next call, which is the one handed in
 // where the call is refused.
 #[repr(C)]
-#[derive(Drop)]
+#[derive(Clone, Copy)]
 pub struct AddAnswer {
     pub refused: u8,
     pub first_copy: bool,
@@ -42,7 +42,7 @@ pub struct AddAnswer {
 
 // The revision of a finished block.
 #[repr(C)]
-#[derive(Drop)]
+#[derive(Clone, Copy)]
 pub struct RevisionAnswer {
     pub refused: u8,
     pub revision: u16,

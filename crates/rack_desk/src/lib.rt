@@ -13,7 +13,7 @@ use desk_record::{Desk, Slot, Use};
 // 2 capture, 3 both. A desk with another number there, in a slot below its count, is impossible. Of a free slot serial and holders
 // are not looked at, and of one being filled the holders.
 #[repr(C)]
-#[derive(Drop)]
+#[derive(Clone, Copy)]
 pub struct DeskSlot {
     pub serial: u32,
     pub used: u16,
@@ -22,7 +22,7 @@ pub struct DeskSlot {
 
 // The desk, laid out without gaps and in widths that no machine changes, since a caller may store it.
 #[repr(C)]
-#[derive(Drop)]
+#[derive(Clone, Copy)]
 pub struct LineDesk {
     pub count: u32,
     pub last: u32,
@@ -31,7 +31,7 @@ pub struct LineDesk {
 
 // The answer of a call that changes the desk.
 #[repr(C)]
-#[derive(Drop)]
+#[derive(Clone, Copy)]
 pub struct DeskAnswer {
     pub refused: u8,
     pub desk: LineDesk,
@@ -39,7 +39,7 @@ pub struct DeskAnswer {
 
 // The answer of a take, with the slot and its serial number.
 #[repr(C)]
-#[derive(Drop)]
+#[derive(Clone, Copy)]
 pub struct TakenAnswer {
     pub refused: u8,
     pub serial: u32,
@@ -49,7 +49,7 @@ pub struct TakenAnswer {
 
 // The answer of `hansobrik_seen`: the part of the area that a holder may read, from its first byte to before its last.
 #[repr(C)]
-#[derive(Drop)]
+#[derive(Clone, Copy)]
 pub struct SeenAnswer {
     pub refused: u8,
     pub from: usize,

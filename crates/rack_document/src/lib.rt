@@ -27,7 +27,7 @@ use rack_number::{
 // A byte that names a way of scanning, and what it names: 0 where it names nothing. Scan modes are 1 full, 2 limited,
 // 3 single; mirrors are 1 to 4 for 1-A, 1-B, 2-A and 2-B.
 #[repr(C)]
-#[derive(Drop)]
+#[derive(Clone, Copy)]
 pub struct NameAnswer {
     pub refused: u8,
     pub name: u8,
@@ -36,7 +36,7 @@ pub struct NameAnswer {
 
 // Line numbers and the line position, scan count minus set line.
 #[repr(C)]
-#[derive(Drop)]
+#[derive(Clone, Copy)]
 pub struct LinesAnswer {
     pub refused: u8,
     pub set_line: u16,
@@ -47,7 +47,7 @@ pub struct LinesAnswer {
 
 // Date and time.
 #[repr(C)]
-#[derive(Drop)]
+#[derive(Clone, Copy)]
 pub struct DateAnswer {
     pub refused: u8,
     pub month: u8,
@@ -61,7 +61,7 @@ pub struct DateAnswer {
 
 // The segment 0 to 24 of every block that a line carries, and its repeat 0 to 7.
 #[repr(C)]
-#[derive(Drop)]
+#[derive(Clone, Copy)]
 pub struct SegmentAnswer {
     pub refused: u8,
     pub segment: u8,

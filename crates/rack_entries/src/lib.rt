@@ -19,7 +19,7 @@ use rack_blocks::{AssemblyRecord, handed};
 
 // A level of calibration-2 as sign, magnitude and decimal places, with the block's revision.
 #[repr(C)]
-#[derive(Drop)]
+#[derive(Clone, Copy)]
 pub struct LevelAnswer {
     pub refused: u8,
     pub negative: bool,
@@ -30,7 +30,7 @@ pub struct LevelAnswer {
 
 // The same in f64.
 #[repr(C)]
-#[derive(Drop)]
+#[derive(Clone, Copy)]
 pub struct LevelFloatAnswer {
     pub refused: u8,
     pub revision: u16,
@@ -39,7 +39,7 @@ pub struct LevelFloatAnswer {
 
 // A point of the mapping grid: image line and pixel, degrees north and degrees east.
 #[repr(C)]
-#[derive(Drop)]
+#[derive(Clone, Copy)]
 pub struct GridAnswer {
     pub refused: u8,
     pub line: u16,
@@ -50,7 +50,7 @@ pub struct GridAnswer {
 
 // The orbital elements.
 #[repr(C)]
-#[derive(Drop)]
+#[derive(Clone, Copy)]
 pub struct OrbitAnswer {
     pub refused: u8,
     pub epoch: f64,

@@ -21,7 +21,7 @@ use sync::SyncPut;
 // A format: its number, the start value of the check of its sectors, the bits of the three parts of one line on the wire, and the
 // bytes of them all.
 #[repr(C)]
-#[derive(Drop)]
+#[derive(Clone, Copy)]
 pub struct FormatAnswer {
     pub refused: u8,
     pub number: u8,
@@ -34,7 +34,7 @@ pub struct FormatAnswer {
 
 // One step of the scrambling register: the bit that it gave, and the register after it.
 #[repr(C)]
-#[derive(Drop)]
+#[derive(Clone, Copy)]
 pub struct StepAnswer {
     pub refused: u8,
     pub bit: u8,

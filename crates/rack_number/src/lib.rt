@@ -21,7 +21,7 @@ use numbers::{Bcd, Integer, Real};
 
 // A count: the filler bits that are set, or the bytes that were put.
 #[repr(C)]
-#[derive(Drop)]
+#[derive(Clone, Copy)]
 pub struct CountAnswer {
     pub refused: u8,
     pub count: usize,
@@ -29,7 +29,7 @@ pub struct CountAnswer {
 
 // I*n.
 #[repr(C)]
-#[derive(Drop)]
+#[derive(Clone, Copy)]
 pub struct IntegerAnswer {
     pub refused: u8,
     pub value: u32,
@@ -37,7 +37,7 @@ pub struct IntegerAnswer {
 
 // BCD*n.
 #[repr(C)]
-#[derive(Drop)]
+#[derive(Clone, Copy)]
 pub struct BcdAnswer {
     pub refused: u8,
     pub value: u64,
@@ -45,7 +45,7 @@ pub struct BcdAnswer {
 
 // R*n.m as sign, magnitude and decimal places. A negative zero is one of its values.
 #[repr(C)]
-#[derive(Drop)]
+#[derive(Clone, Copy)]
 pub struct RealAnswer {
     pub refused: u8,
     pub negative: bool,
@@ -55,7 +55,7 @@ pub struct RealAnswer {
 
 // R*n.m in f64.
 #[repr(C)]
-#[derive(Drop)]
+#[derive(Clone, Copy)]
 pub struct FloatAnswer {
     pub refused: u8,
     pub value: f64,

@@ -23,7 +23,7 @@ use writer::Written;
 // `in_line` is 1 in a line and 0 between lines; a record with another number there is impossible. The other fields are those of
 // `reader_record::State`.
 #[repr(C)]
-#[derive(Drop)]
+#[derive(Clone, Copy)]
 pub struct ReaderState {
     pub position: u64,
     pub search: u64,
@@ -39,7 +39,7 @@ pub struct ReaderState {
 // The answer of a read: whether a line is complete in the buffer, the bytes taken of the piece, and the record for the next
 // call, which is the one handed in where the call is refused.
 #[repr(C)]
-#[derive(Drop)]
+#[derive(Clone, Copy)]
 pub struct ReadAnswer {
     pub refused: u8,
     pub complete: bool,

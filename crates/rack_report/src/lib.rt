@@ -17,7 +17,7 @@ use report_record::{Channel, Range, Report, Tally, no_tally};
 
 // A sector over all lines of a pass: how many accepted it, how many refused it with 5 and with 6; its filler bits that are set.
 #[repr(C)]
-#[derive(Drop)]
+#[derive(Clone, Copy)]
 pub struct SectorTally {
     pub accepted: u64,
     pub remainder: u64,
@@ -28,7 +28,7 @@ pub struct SectorTally {
 // The ten-bit pixels of IR1, IR2, IR3 or IR4 over all lines in which they were accepted. `present` is the mark: 1 where least and
 // largest hold, and 0 where there are no pixels; a record with another number there is impossible.
 #[repr(C)]
-#[derive(Drop)]
+#[derive(Clone, Copy)]
 pub struct ChannelTally {
     pub count: u64,
     pub sum: u64,
@@ -40,7 +40,7 @@ pub struct ChannelTally {
 // The report, laid out without gaps and in widths that no machine changes, since a caller may store it: sector n at n - 1,
 // channel n at n - 1.
 #[repr(C)]
-#[derive(Drop)]
+#[derive(Clone, Copy)]
 pub struct PassReport {
     pub lines: u64,
     pub sectors: [SectorTally; 12],
@@ -49,7 +49,7 @@ pub struct PassReport {
 
 // The answer of a call, with the report, which is the one handed in where the call is refused.
 #[repr(C)]
-#[derive(Drop)]
+#[derive(Clone, Copy)]
 pub struct ReportAnswer {
     pub refused: u8,
     pub report: PassReport,

@@ -24,7 +24,7 @@ use visible::strip::Stripped;
 
 // The answer to a strip: for each of VIS1 to VIS4 0, or 5 or 6 where the sector is not accepted and its part stays.
 #[repr(C)]
-#[derive(Drop)]
+#[derive(Clone, Copy)]
 pub struct StripAnswer {
     pub refused: u8,
     pub vis: [u8; 4],
@@ -40,7 +40,7 @@ pub extern "C" fn hansobrik_accepted(format: u8, line: &[u8], sector: u8) -> u8
 
 // The answers of sectors 1 to 12: 0, or 5 or 6 where the sector is not accepted.
 #[repr(C)]
-#[derive(Drop)]
+#[derive(Clone, Copy)]
 pub struct TwelveAnswer {
     pub refused: u8,
     pub answers: [u8; 12],

@@ -9,7 +9,7 @@ use reader_record::State;
 
 // The answer of `read`: refused, with the number; the piece used up; or a line complete in the buffer. The bytes taken of
 // the piece, and the record for the next call.
-#[derive(Drop)]
+#[derive(Clone, Copy)]
 pub enum Answer {
     Refused(u8),
     More { taken: usize, state: State },

@@ -12,7 +12,7 @@ use formats::Format;
 // the line bits that wait for their byte. Between lines: the last bits since the search began, fewer than the tail has,
 // and the unread bits of the last byte. A bit field holds its bits as a number, the last bit lowest; a field that has no
 // meaning is 0.
-#[derive(Drop)]
+#[derive(Clone, Copy)]
 pub struct State {
     pub in_line: bool,
     pub position: usize,

@@ -15,7 +15,7 @@ use report_record::{MOST_LINES, Report, no_pixels, no_tally};
 use report_whole::{add, line_report, record_refusal};
 
 // The answer of a call: refused with a number, or 0; and the report, as it was where the call is refused.
-#[derive(Drop)]
+#[derive(Clone, Copy)]
 pub struct Reported {
     pub refused: u8,
     pub report: Report,

@@ -17,7 +17,7 @@ use report_record::{Channel, Range, Tally, greater, lesser, no_pixels};
 use sector_table::layout::layout_of;
 
 // Some pixels, folded: their sum, their least and their largest.
-#[derive(Drop)]
+#[derive(Clone, Copy)]
 pub struct Fold {
     pub sum: u64,
     pub least: u16,

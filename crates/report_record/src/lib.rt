@@ -19,14 +19,14 @@ const LINE_PIXELS: u64 = 2291;
 const LINE_SUM: u64 = 2343693;
 
 // The least and the largest of some pixels; absent where there are none.
-#[derive(Drop)]
+#[derive(Clone, Copy)]
 pub enum Range {
     Absent,
     From { least: u16, largest: u16 },
 }
 
 // A sector over all lines: how many accepted it, how many refused it with 5 and with 6; how many of its filler bits are set.
-#[derive(Drop)]
+#[derive(Clone, Copy)]
 pub struct Tally {
     pub accepted: u64,
     pub remainder: u64,
@@ -35,7 +35,7 @@ pub struct Tally {
 }
 
 // The ten-bit pixels of IR1, IR2, IR3 or IR4, of all lines in which they were accepted.
-#[derive(Drop)]
+#[derive(Clone, Copy)]
 pub struct Channel {
     pub count: u64,
     pub sum: u64,
@@ -43,7 +43,7 @@ pub struct Channel {
 }
 
 // The report: sector n at n - 1, channel n at n - 1.
-#[derive(Drop)]
+#[derive(Clone, Copy)]
 pub struct Report {
     pub lines: u64,
     pub sectors: [Tally; 12],

@@ -10,27 +10,27 @@ ghost use Rattle.scramble.specs.Step.{StepOk, register_left};
 ghost use Rattle.scramble.specs.Wire.{plain_bit};
 
 // The last fifteen scrambling bits, the newest lowest.
-#[derive(Drop)]
+#[derive(Clone, Copy)]
 pub struct Register {
     pub bits: u16,
 }
 
 // The register after a bit, and the bit.
-#[derive(Drop)]
+#[derive(Clone, Copy)]
 pub struct Shifted {
     pub next: Register,
     pub bit: u8,
 }
 
 // The answer of a step: the bit that it gave.
-#[derive(Drop)]
+#[derive(Clone, Copy)]
 pub enum StepBit {
     Refused(u8),
     Bit(u8),
 }
 
 // The register after a step by value, and the step's answer.
-#[derive(Drop)]
+#[derive(Clone, Copy)]
 pub struct StepTaken {
     pub next: Register,
     pub answer: StepBit,

@@ -13,7 +13,7 @@ use sector_table::asked::line_refusal;
 use sector_table::layout::{CHECK_BITS, FILLER_BITS, Layout, layout_of};
 
 // The answer to a count.
-#[derive(Drop)]
+#[derive(Clone, Copy)]
 pub enum Counted {
     Set(usize),
     Refused(u8),
@@ -21,7 +21,7 @@ pub enum Counted {
 
 // The answers of all twelve sectors, that of sector n at n - 1: 0, 5 or 6 each, where refused is 0; where the call is
 // refused, refused is its number, and all twelve are 0.
-#[derive(Drop)]
+#[derive(Clone, Copy)]
 pub struct Twelve {
     pub refused: u8,
     pub answers: [u8; 12],

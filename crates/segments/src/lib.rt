@@ -22,7 +22,7 @@ use revisions::{remembered, revisions_in};
 
 // What became of a line: the record of the assembly from now on, the segment that the line carried, and whether it was
 // the first copy, which was stored, or a later one equal to it.
-#[derive(Drop)]
+#[derive(Clone, Copy)]
 pub struct Placed {
     pub assembly: Assembly,
     pub segment: u8,
@@ -30,7 +30,7 @@ pub struct Placed {
 }
 
 // The answer to a line. Refused, the assembly goes on with the record that it had.
-#[derive(Drop)]
+#[derive(Clone, Copy)]
 pub enum Added {
     Is(Placed),
     Refused(u8),

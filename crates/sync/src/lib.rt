@@ -14,7 +14,7 @@ const BEFORE_1: u16 = 0x339f;
 const BEFORE_2: u16 = 0x61df;
 
 // The answer of `put_sync`: the bytes that SYNC takes.
-#[derive(Drop)]
+#[derive(Clone, Copy)]
 pub enum SyncPut {
     Refused(u8),
     Put(usize),

@@ -10,14 +10,14 @@ use tail_bytes::passes;
 
 // Inner. What the search gives: at the tail, the bytes taken and the low bits of the last byte still to read; else what is
 // remembered once all bytes are taken.
-#[derive(Drop)]
+#[derive(Clone, Copy)]
 pub enum Sought {
     Found { taken: usize, left: u8, byte: u8 },
     Nothing { count: u8, search: u64 },
 }
 
 // How far the search went over whole bytes: the bytes taken, the last of them, and what is remembered.
-#[derive(Drop)]
+#[derive(Clone, Copy)]
 struct Passed {
     taken: usize,
     byte: u8,

@@ -11,7 +11,7 @@ use libc::{STDERR_FILENO, STDOUT_FILENO};
 const ROOM: usize = 512;
 
 // The bytes of a row, and how many of them are in use.
-#[derive(Drop)]
+#[derive(Clone, Copy)]
 pub struct Row {
     pub bytes: [u8; 512],
     pub count: usize,

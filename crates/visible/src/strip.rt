@@ -17,7 +17,7 @@ pub const PART_BYTES: usize = 9164;
 pub const STRIP_BYTES: usize = 4 * PART_BYTES;
 
 // For each of VIS1 to VIS4: 0 where it was accepted and fills its part; 5 or 6 where it was not, and its part stays.
-#[derive(Drop)]
+#[derive(Clone, Copy)]
 pub struct PartAnswers {
     pub one: u8,
     pub two: u8,
@@ -26,7 +26,7 @@ pub struct PartAnswers {
 }
 
 // The answer to a strip.
-#[derive(Drop)]
+#[derive(Clone, Copy)]
 pub enum Stripped {
     Parts(PartAnswers),
     Refused(u8),

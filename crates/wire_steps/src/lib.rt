@@ -13,7 +13,7 @@ ghost use Rattle.wire_steps.specs.Along.{Further, AfterWord};
 use scramble::Register;
 
 // The register after a run of bits, and the number that the bits of the run write.
-#[derive(Drop)]
+#[derive(Clone, Copy)]
 pub struct Run {
     pub next: Register,
     pub key: u16,
@@ -54,7 +54,7 @@ pub fn group_word(place: usize) -> u64
 }
 
 // The register after the eight bits of a byte, and the byte.
-#[derive(Drop)]
+#[derive(Clone, Copy)]
 pub struct Eight {
     pub next: Register,
     pub byte: u8,
@@ -75,7 +75,7 @@ pub fn mix_byte(byte: u8, place: usize, r: Register) -> Eight
 }
 
 // The register after the bits of a word, and the word of the key.
-#[derive(Drop)]
+#[derive(Clone, Copy)]
 pub struct Word {
     pub next: Register,
     pub key: u64,

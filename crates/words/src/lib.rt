@@ -8,7 +8,7 @@ ghost use Rattle.words.specs.Words.{nothing_asked, with_options, with_names, awa
 
 // A word: -2 or -3, which ask for a format, --help, -s, the number behind -s, a name (that of a file, or a number), or another that
 // opens with a minus sign.
-#[derive(Drop)]
+#[derive(Clone, Copy)]
 pub enum Word {
     Format(u8),
     Help,
@@ -19,7 +19,7 @@ pub enum Word {
 }
 
 // Which words a program takes beside -2, -3 and --help: at most so many names, and whether -s.
-#[derive(Drop)]
+#[derive(Clone, Copy)]
 pub struct Takes {
     pub names: usize,
     pub setting: bool,
@@ -28,7 +28,7 @@ pub struct Takes {
 // What the words ask for: the format, whether it is help, whether -s awaits its number and the place of that number (of -s while
 // it awaits), how many names there are and the places of the first four, and the place of the first word that is not served.
 // Places count from 1, and 0 is none: the program's own name stands there.
-#[derive(Drop)]
+#[derive(Clone, Copy)]
 pub struct Asked {
     pub format: u8,
     pub help: bool,

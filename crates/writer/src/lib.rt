@@ -11,7 +11,7 @@ use formats::{Format, FormatAnswer};
 use scramble::Register;
 
 // The answer: the bytes of the line on the wire.
-#[derive(Drop)]
+#[derive(Clone, Copy)]
 pub enum Written {
     Refused(u8),
     Put(usize),
