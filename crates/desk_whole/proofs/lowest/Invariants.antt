@@ -1,0 +1,12 @@
+-- `desk_whole::lowest` meets its contract. Assumes nothing.
+use mathlib.Core.Path.{◌≡◌}
+use Prim.Native.Nat.{◌≤◌, ◌-◌}
+use Rattle.desk_record.specs.Slots.{slot_of}
+use Rattle.desk_record.specs.Desks.{lowest_from}
+use Rattle.desk_whole.proofs.lowest.Given as goal
+
+abbrev pub invariant-loop-i : goal.invariant-loop-i
+invariant-loop-i l = (l.i ≤ l.d.count) × (lowest_from (slot_of l.d) l.d.count 0 ≡ lowest_from (slot_of l.d) (l.d.count - l.i) l.i)
+
+abbrev pub decreases-loop-i : goal.decreases-loop-i
+decreases-loop-i l = l.d.count - l.i

@@ -1,0 +1,22 @@
+-- `document::modes::mirror_of` meets its contract: in a named arm the byte is that number, and the definition computes; in
+-- the last it is none of them. Assumes nothing.
+use mathlib.Core.Path.{refl}
+use borrow.Author.Tests.{ne_eqb}
+use Rattle.document.proofs.modes.mirror_of.Goals as goal
+
+pub returns-in-255 : goal.returns-in-255
+returns-in-255 c = rw c.in-255.keys1 refl
+
+pub returns-in-240 : goal.returns-in-240
+returns-in-240 c = rw c.in-240.keys2 refl
+
+pub returns-in-0 : goal.returns-in-0
+returns-in-0 c = rw c.in-0.keys3 refl
+
+pub returns-in-15 : goal.returns-in-15
+returns-in-15 c = rw c.in-15.keys4 refl
+
+pub returns-in_default : goal.returns-in_default
+returns-in_default c =
+    let other = c.in_default.rest in
+    simp (ne_eqb _ _ other.0.0.0.1, ne_eqb _ _ other.0.0.1, ne_eqb _ _ other.0.1, ne_eqb _ _ other.1)

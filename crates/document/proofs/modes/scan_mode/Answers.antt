@@ -1,0 +1,26 @@
+-- `document::modes::scan_mode` meets its contract. Assumes nothing.
+use mathlib.Core.Path.{sym, ap, ◌∙◌}
+use Prim.Native.Nat.{◌≤◌}
+use borrow.Author.Rules.{rules}
+use lib.ListN.{length}
+use Rattle.refusals.proofs.Says.{says_some, says_none}
+use Rattle.formats.specs.Formats.{line_bytes}
+use Rattle.document.specs.Modes.{mode_of}
+use Rattle.document.proofs.Known.{doc_long}
+use Rattle.document.proofs.Settled.{scan_kind, scan-mode-told}
+use Rattle.document.proofs.modes.scan_mode.Tie as tie
+use Rattle.document.proofs.modes.scan_mode.Goals as goal
+
+long : (c : tie.Else-refused-ne0) → line_bytes ≤ length c.args.line.now
+long c = doc_long _ _ (sym c.doc_refusal-refused.ensures ∙ c.if-refused-ne0.false)
+
+pub returns-then-refused-ne0 : goal.returns-then-refused-ne0
+returns-then-refused-ne0 c = scan-mode-told _ _ _ (says_some scan_kind _ _ _ c.doc_refusal-refused.ensures c.if-refused-ne0.true)
+
+pub doc_byte-requires : goal.doc_byte-requires
+doc_byte-requires c = let h = long c.before in search rules
+
+pub returns : goal.returns
+returns c =
+    let named = c.mode_of.ensures ∙ ap mode_of c.doc_byte.ensures in
+    scan-mode-told _ _ _ (says_none scan_kind _ _ _ _ c.doc_refusal-refused.ensures c.if-refused-ne0.false named)

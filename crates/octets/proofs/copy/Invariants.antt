@@ -1,0 +1,13 @@
+-- `octets::copy` meets its contract. Assumes nothing.
+use mathlib.Core.Path.{◌≡◌}
+use Prim.Native.Nat.{◌-◌, ◌≤◌}
+use lib.ListN.{length}
+use lib.Seq.{paste}
+use Rattle.bits.specs.Bits.{stretch}
+use Rattle.octets.proofs.copy.Given as goal
+
+abbrev pub invariant-loop-i : goal.invariant-loop-i
+invariant-loop-i l = (l.i ≤ l.n) × (l.b ≡ paste l.initial.b l.at (stretch l.a l.from l.n) l.i) × (length l.b ≡ length l.initial.b)
+
+abbrev pub decreases-loop-i : goal.decreases-loop-i
+decreases-loop-i l = l.n - l.i

@@ -1,0 +1,40 @@
+-- `pixels::values::pixels` meets its contract. Assumes nothing.
+use mathlib.Core.Path.{◌≡◌, sym, ap, subst, ◌∙◌}
+use mathlib.Core.List.{◌++◌}
+use Prim.Native.Nat.{◌≤◌}
+use native.Mathlib.Omega.{arith}
+use lib.ListN.{length, drop}
+use Rattle.refusals.proofs.Words.{turned_away, done}
+use Rattle.bits.specs.Bits.{bits_of}
+use Rattle.sector_table.specs.declared.layout.Layout.{Layout}
+use Rattle.sector_check.specs.Sector.{pixels_of}
+use Rattle.sector_table.proofs.Table.{sound, thin}
+use Rattle.pixel_refusals.specs.Refusing.{pixels_answer}
+use Rattle.pixels.specs.Calls.{pixels_left}
+use Rattle.pixel_refusals.proofs.Readable.{pixels_readable, ready}
+use Rattle.pixels.proofs.values.pixels.Tie as tie
+use Rattle.pixels.proofs.values.pixels.Goals as goal
+
+none : (c : tie.Else-refused-ne0) → let a = c.args in pixels_answer 2 11 a.format a.line.now a.sector (length a.out.now) ≡ 0
+none c = sym c.pixels_refusal-refused.ensures ∙ c.if-refused-ne0.false
+
+pub returns-then-refused-ne0 : goal.returns-then-refused-ne0
+unfolding pixels_left
+returns-then-refused-ne0 c = turned_away _ _ _ _ c.pixels_refusal-refused.ensures c.if-refused-ne0.true
+
+pub layout_of-requires : goal.layout_of-requires
+layout_of-requires c = let h = pixels_readable _ _ _ _ _ _ (none c.before) in (omega (arith, h.low), omega (arith, h.high))
+
+pub unpack_pixels-requires : goal.unpack_pixels-requires
+unpack_pixels-requires c =
+    let h = pixels_readable _ _ _ _ _ _ (none c.before.before.before) in
+    let found = c.layout_of.ensures in
+    let there = ready (λ (l : Layout). l.count) h found (sound _ (omega (arith, h.low)) (omega (arith, h.high))) in
+    (there.0, there.1, subst (λ (l : Layout). l.width ≤ 8) (sym found) (thin _ (omega (arith, h.low)) h.high), there.2)
+
+pub returns : goal.returns
+unfolding pixels_left
+returns c =
+    let a = c.args in
+    done _ _ _ _ (sym c.if-refused-ne0.false ∙ c.pixels_refusal-refused.ensures)
+    (c.unpack_pixels.ensures ∙ ap (λ (l : Layout). pixels_of l (bits_of a.line.now) ++ drop (l).count a.out.now) c.layout_of.ensures)

@@ -1,0 +1,11 @@
+-- `rack_document::scan_given` meets its contract. Assumes nothing.
+use Rattle.rack_document.specs.Documentation.{name_given, scan_given}
+use Rattle.rack_document.proofs.scan_given.Goals as goal
+
+pub returns-in-Is : goal.returns-in-Is
+unfolding scan_given
+returns-in-Is c = rw c.a-1.given.1 c.mode.ensures
+
+pub returns-in-Refused : goal.returns-in-Refused
+unfolding scan_given name_given
+returns-in-Refused c = rw c.a-in-Refused-1.given.1

@@ -1,0 +1,11 @@
+-- `rack_document::scanner_given` meets its contract. Assumes nothing.
+use Rattle.rack_document.specs.Documentation.{name_given, scanner_given}
+use Rattle.rack_document.proofs.scanner_given.Goals as goal
+
+pub returns-in-Is : goal.returns-in-Is
+unfolding scanner_given
+returns-in-Is c = rw c.a-1.given.1 c.mirror.ensures
+
+pub returns-in-Refused : goal.returns-in-Refused
+unfolding scanner_given name_given
+returns-in-Refused c = rw c.a-in-Refused-1.given.1

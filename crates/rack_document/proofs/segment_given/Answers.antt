@@ -1,0 +1,11 @@
+-- `rack_document::segment_given` meets its contract. Assumes nothing.
+use Rattle.rack_document.specs.Documentation.{segment_given}
+use Rattle.rack_document.proofs.segment_given.Goals as goal
+
+pub returns-in-Is : goal.returns-in-Is
+unfolding segment_given
+returns-in-Is c = rw c.a-1.given.1
+
+pub returns-in-Refused : goal.returns-in-Refused
+unfolding segment_given
+returns-in-Refused c = rw c.a-in-Refused-1.given.1

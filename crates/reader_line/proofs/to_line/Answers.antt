@@ -1,0 +1,11 @@
+-- `reader_line::to_line` meets its contract. Assumes nothing.
+use Rattle.reader_line.proofs.Ends.{filled_whole, filled_part}
+use Rattle.reader_line.proofs.to_line.Goals as goal
+
+pub returns-in-Whole : goal.returns-in-Whole
+returns-in-Whole c =
+    filled_whole c.fill.ensures c.taken-1.given.1 c.between.ensures
+
+pub returns-in-Part : goal.returns-in-Part
+returns-in-Part c =
+    filled_part c.fill.ensures c.place-1.given.1 c.inside.ensures

@@ -1,0 +1,35 @@
+-- `sector_check::answer` meets its contract: each test decides one case of the answer. Assumes nothing.
+use mathlib.Core.Path.{◌≡◌, sym, ◌∙◌}
+use Rattle.bits.specs.Bits.{bits_of, part}
+use Rattle.crc_step.specs.Remainder.{remainder_of}
+use Rattle.sector_check.specs.Sector.{covered_of}
+use Rattle.sector_check.proofs.Answers.{answer-five, answer-six, answer-none, id_part}
+use Rattle.sector_check.proofs.answer.Tie as tie
+use Rattle.sector_check.proofs.answer.Goals as goal
+
+-- the remainder over ID, data and check
+read : (c : tie.After-remainder) → let a = c.args in
+    c.remainder.result ≡ remainder_of a.start (covered_of a.l (bits_of a.line.now))
+unfolding part covered_of
+read c = c.remainder.ensures
+
+pub returns-then-remainder-ne0 : goal.returns-then-remainder-ne0
+returns-then-remainder-ne0 c =
+    let a = c.args in
+    answer-five a.start a.l (bits_of a.line.now) (λ z. c.if-remainder-ne0.true (read c.before.before ∙ z))
+
+pub returns-then-field-l : goal.returns-then-field-l
+returns-then-field-l c =
+    let first = c.before.before.before.before in
+    let a = c.args in
+    answer-six a.start a.l (bits_of a.line.now)
+    (sym (read first.before) ∙ c.if-remainder-ne0.false)
+    (λ z. c.if-field-l.true (c.field.ensures.0 ∙ id_part a.l a.line.now ∙ z))
+
+pub returns : goal.returns
+returns c =
+    let first = c.before.before.before.before in
+    let a = c.args in
+    answer-none a.start a.l (bits_of a.line.now)
+    (sym (read first.before) ∙ c.if-remainder-ne0.false)
+    (sym (c.field.ensures.0 ∙ id_part a.l a.line.now) ∙ c.if-field-l.false)

@@ -1,0 +1,34 @@
+-- `sector_writer::write::put_data` meets its contract. Assumes nothing.
+use mathlib.Core.Path.{sym, ap₂, ◌∙◌}
+use Prim.Native.Nat.{ℕ}
+use native.Mathlib.Omega.{arith}
+use lib.ListN.{length}
+use Rattle.refusals.proofs.Words.{turned_away, done}
+use Rattle.bits.specs.Bits.{bits_of}
+use Rattle.sector_table.specs.declared.layout.Layout.{Layout}
+use Rattle.sector_table.specs.Layout.{layout_of, bytes_of}
+use Rattle.sector_frame.specs.Written.{sector_written, data_written}
+use Rattle.sector_writer.specs.Calls.{put_data_left}
+use Rattle.write_refusals.proofs.Writable.{Writable, data_writable, ready}
+use Rattle.sector_writer.proofs.write.put_data.Tie as tie
+use Rattle.sector_writer.proofs.write.put_data.Goals as goal
+
+knows : (c : tie.Else-refused-ne0) → let a = c.args in Writable 1 12 a.sector (length a.line.now) (length a.bytes.now) (bytes_of (layout_of a.sector))
+knows c = data_writable _ _ _ _ (sym c.data_refusal-refused.ensures ∙ c.if-refused-ne0.false)
+
+pub returns-then-refused-ne0 : goal.returns-then-refused-ne0
+unfolding put_data_left
+returns-then-refused-ne0 c = turned_away _ _ _ _ c.data_refusal-refused.ensures c.if-refused-ne0.true
+
+pub layout_of-requires : goal.layout_of-requires
+layout_of-requires c = let h = knows c.before.before in (omega (arith, h.low), omega (arith, h.high))
+
+pub write_bytes-requires : goal.write_bytes-requires
+write_bytes-requires c = ready _ c.layout_of.ensures (λ (l : Layout). bytes_of l) (omega arith) (omega arith) (knows c.before.before.before.before)
+
+pub returns : goal.returns
+unfolding put_data_left
+returns c =
+    let a = c.args in
+    done _ _ _ _ (sym c.if-refused-ne0.false ∙ c.data_refusal-refused.ensures)
+    (c.write_bytes.ensures ∙ ap₂ (λ (s : ℕ) (l : Layout). sector_written s l (data_written l a.bytes.now) (bits_of a.line.now)) c.check_start.ensures c.layout_of.ensures)

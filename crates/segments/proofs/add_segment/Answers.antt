@@ -1,0 +1,51 @@
+-- `segments::add_segment` meets its contract. Assumes nothing.
+use mathlib.Core.Path.{◌≡◌, sym, ap, subst, ◌∙◌}
+use Prim.Native.Nat.{ℕ, ◌≤◌}
+use lib.ListN.{length}
+use Rattle.refusals.proofs.Words.{kept_some, kept_none, refused}
+use Rattle.refusals.proofs.Says.{says_some}
+use Rattle.document.specs.declared.segments.SubCommutation.TheVariants.{Refused}
+use Rattle.document.specs.Segments.{sub_number, sub_segment}
+use Rattle.blocks.proofs.Rows.{sound}
+use Rattle.segments.specs.Assembly.{segment_in, carried_refusal, add_segment_refusal, add_segment_left}
+use Rattle.segments.proofs.Known.{carries}
+use Rattle.segments.proofs.Settled.{added_kind, added-told}
+use Rattle.segments.proofs.add_segment.Tie as tie
+use Rattle.segments.proofs.add_segment.Goals as goal
+
+-- the arm of a segment: nothing refuses the line before its bytes are compared, and the segment is that of byte 194
+is_carried : (c : tie.In-Is-2) → let a = c.args in
+    carried_refusal a.format a.assembly.marks a.line.now a.number (length a.block.now) ≡ 0
+is_carried c = sym c.carried.ensures.0 ∙ ap sub_number c.segment-1.given.1
+
+is-segment : (c : tie.In-Is-2) → let a = c.args in c.segment-1.given.0.0 ≡ segment_in a.line.now
+is-segment c = ap sub_segment (sym c.segment-1.given.1) ∙ ap (λ (v : ℕ × ℕ). v.0) (c.carried.ensures.1 ∙ kept_none _ _ _ (is_carried c))
+
+-- the other arm: what refuses it
+is-refused : (c : tie.In-Refused-2) → let a = c.args in
+    c.k-1.given.0.0 ≡ carried_refusal a.format a.assembly.marks a.line.now a.number (length a.block.now)
+is-refused c = ap sub_number (sym c.k-1.given.1) ∙ c.carried.ensures.0
+
+some : (c : tie.In-Refused-2) → c.k-1.given.0.0 ≡ 0 → ⊥
+some c z = c.carried.ensures.2 (c.k-1.given.1 ∙ ap Refused z)
+
+pub place-requires : goal.place-requires
+place-requires c =
+    let found = c.before.before.before in
+    let a = c.args in
+    let h = carries a.format a.assembly.marks a.line.now a.number (length a.block.now) (is_carried found) in
+    record { row = sound a.number h.low h.high; small = subst (λ (s : ℕ). s ≤ 24) (sym (is-segment found)) h.segment; long = h.long; room = h.room }
+
+pub returns-in-Is : goal.returns-in-Is
+returns-in-Is c =
+    let found = placed.before.before.before in
+    let a = c.args in
+    added-told a.format a.assembly a.line.now a.number a.block.now (is_carried found) _ (is-segment found) _ _ c.place.ensures
+
+pub returns-in-Refused : goal.returns-in-Refused
+unfolding add_segment_refusal add_segment_left
+returns-in-Refused c =
+    let found = c.before.before in
+    let a = c.args in
+    let e = refused _ _ _ (is-refused found) (some found) in
+    (says_some (added_kind a.assembly) _ _ _ e (some found), sym (kept_some _ _ _ (λ z. some found (e ∙ z))))

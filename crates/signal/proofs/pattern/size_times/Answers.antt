@@ -1,0 +1,10 @@
+-- `signal::pattern::size_times` is safe and ends. Assumes nothing.
+use native.Mathlib.Nat.{mul-le-mul}
+use native.Mathlib.Omega.{arith}
+use Rattle.signal.proofs.pattern.size_times.Goals as goal
+
+pub overflow_mul-result : goal.overflow_mul-result
+overflow_mul-result c = omega (arith, mul-le-mul c.requires.0 c.requires.1)
+
+pub returns : goal.returns
+returns c = omega (arith, mul-le-mul c.requires.0 c.requires.1)

@@ -1,0 +1,10 @@
+-- `signal::send` is safe and ends. Assumes nothing.
+use mathlib.Core.Path.{sym}
+use native.Mathlib.Omega.{arith}
+use lib.Seq.{length-take-le}
+use Rattle.signal.proofs.send.Goals as goal
+
+pub slice_bounds-write_all-end : goal.slice_bounds-write_all-end
+slice_bounds-write_all-end c =
+    let args = c.args in
+    sym (length-take-le args.bytes args.wire.now (omega arith))

@@ -1,0 +1,39 @@
+-- `writer::write_line` meets its contract: each return is one of its ways. Assumes nothing.
+use mathlib.Core.Path.{sym, ap₂, ◌∙◌}
+use Rattle.bits.proofs.Below.{below_all}
+use Rattle.refusals.specs.Refusals.{first}
+use Rattle.formats.proofs.Settled.{format-is}
+use Rattle.writer.proofs.Ways.{write-unknown, write-short, line-whole, output-room, write_done}
+use Rattle.writer.proofs.write_line.Goals as goal
+
+pub returns-then-refused-ne0 : goal.returns-then-refused-ne0
+returns-then-refused-ne0 c =
+    let args = c.args in
+    write-short args.format args.line.now args.out.now _ (sym (format-is _ _ c.of.ensures) ∙ c.f-1.given.1) _
+    (c.first-refused.ensures ∙ ap₂ first c.short.ensures c.short-in-Is.ensures) c.if-refused-ne0.true
+
+pub put_line-requires : goal.put_line-requires
+put_line-requires c =
+    let args = c.args in
+    let known = sym (format-is _ _ c.of.ensures) ∙ c.f-1.given.1 in
+    let short = c.first-refused.ensures ∙ ap₂ first c.short.ensures c.short-in-Is.ensures in
+    record {
+      number = args.format;
+      known = known;
+      whole = line-whole args.format args.line.now args.out.now _ known _ short c.if-refused-ne0.false;
+      room = output-room args.format args.line.now args.out.now _ known _ short c.if-refused-ne0.false;
+    }
+
+pub returns-in-Refused : goal.returns-in-Refused
+returns-in-Refused c =
+    let args = c.args in
+    write-unknown args.format args.line.now args.out.now _ (sym (format-is _ _ c.of.ensures) ∙ c.number-1.given.1)
+
+pub returns-else-refused-ne0 : goal.returns-else-refused-ne0
+returns-else-refused-ne0 c =
+    let args = c.args in
+    write_done args.format args.line.now args.out.now _ (sym (format-is _ _ c.of.ensures) ∙ c.f-1.given.1) _
+    (c.first-refused.ensures ∙ ap₂ first c.short.ensures c.short-in-Is.ensures) c.if-refused-ne0.false _
+    (below_all 256 args.out.now (λ i. (c.slice_known-1.given i).fits))
+    (below_all 256 _ (λ i. (c.slice_known-in-Is-1.given i).fits))
+    c.put_line.ensures
