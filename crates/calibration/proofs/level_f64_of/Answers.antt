@@ -12,9 +12,9 @@ as_float-requires c =
 pub returns-in-Is : goal.returns-in-Is
 returns-in-Is c =
     let own = c.revision_of-held in
-    says_level_f64 _ _ _ _ _ _ own.ensures (says_float _ _ _ _ c.level_real.ensures c.as_float.ensures) (sym (ap (with_revision_f64 own.result) c.x-1.given.1))
+    says_level_f64 _ _ _ _ _ _ own.ensures (says_float _ _ _ _ c.level_real.ensures c.as_float.ensures) (sym (ap (with_revision_f64 own.result) c.in-Is.is))
 
 pub returns-in-Refused : goal.returns-in-Refused
 returns-in-Refused c =
     let own = c.revision_of-held in
-    says_level_f64 _ _ _ _ _ _ own.ensures (says_float _ _ _ _ c.level_real.ensures c.as_float.ensures) (sym (ap (with_revision_f64 own.result) c.k-1.given.1))
+    says_level_f64 _ _ _ _ _ _ own.ensures (says_float _ _ _ _ c.level_real.ensures c.as_float.ensures) (sym (ap (with_revision_f64 own.result) c.in-Refused.is))

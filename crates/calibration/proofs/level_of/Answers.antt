@@ -6,9 +6,9 @@ use Rattle.calibration.proofs.level_of.Goals as goal
 pub returns-in-Is : goal.returns-in-Is
 returns-in-Is c =
     let own = c.revision_of-revision in
-    says_level _ _ _ _ _ _ own.ensures c.level_real.ensures (sym (ap (with_revision own.result) c.x-1.given.1))
+    says_level _ _ _ _ _ _ own.ensures c.level_real.ensures (sym (ap (with_revision own.result) c.in-Is.is))
 
 pub returns-in-Refused : goal.returns-in-Refused
 returns-in-Refused c =
     let own = c.revision_of-revision in
-    says_level _ _ _ _ _ _ own.ensures c.level_real.ensures (sym (ap (with_revision own.result) c.k-1.given.1))
+    says_level _ _ _ _ _ _ own.ensures c.level_real.ensures (sym (ap (with_revision own.result) c.in-Refused.is))

@@ -3,7 +3,7 @@ use mathlib.Core.Path.{refl}
 use Rattle.desk_record.proofs.busy_as.Goals as goal
 
 pub returns-in-Filling : goal.returns-in-Filling
-returns-in-Filling c = rw c.u-1.given.1 refl
+returns-in-Filling c = rw c.in-Filling.is refl
 
 pub returns-in-Held : goal.returns-in-Held
-returns-in-Held c = rw c.u-in-Held-1.given.1 refl
+returns-in-Held c = rw c.in-Held.is refl

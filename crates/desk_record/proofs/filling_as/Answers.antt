@@ -3,4 +3,4 @@ use mathlib.Core.Path.{refl}
 use Rattle.desk_record.proofs.filling_as.Goals as goal
 
 pub returns-in-Filling : goal.returns-in-Filling
-returns-in-Filling c = rw c.u-1.given.1 refl
+returns-in-Filling c = rw c.in-Filling.is refl

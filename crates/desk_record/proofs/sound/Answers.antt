@@ -3,13 +3,13 @@ use mathlib.Core.Path.{refl, sym, ◌∙◌}
 use Rattle.desk_record.proofs.sound.Goals as goal
 
 pub returns-in-Filling : goal.returns-in-Filling
-returns-in-Filling c = rw c.u-1.given.1 c.given.ensures
+returns-in-Filling c = rw c.in-Filling.is c.given.ensures
 
 pub returns-then-preview : goal.returns-then-preview
-returns-then-preview c = rw (c.u-in-Held-1.given.1, sym c.given-in-Held.ensures ∙ c.if-given.true, c.if-preview.true) refl
+returns-then-preview c = rw (c.in-Held.is, sym c.given-in-Held.ensures ∙ c.if-given.true, c.if-preview.true) refl
 
 pub returns-else-preview : goal.returns-else-preview
-returns-else-preview c = rw (c.u-in-Held-1.given.1, sym c.given-in-Held.ensures ∙ c.if-given.true, c.if-preview.false) refl
+returns-else-preview c = rw (c.in-Held.is, sym c.given-in-Held.ensures ∙ c.if-given.true, c.if-preview.false) refl
 
 pub returns-else-given : goal.returns-else-given
-returns-else-given c = rw (c.u-in-Held-1.given.1, sym c.given-in-Held.ensures ∙ c.if-given.false) refl
+returns-else-given c = rw (c.in-Held.is, sym c.given-in-Held.ensures ∙ c.if-given.false) refl

@@ -7,12 +7,12 @@ use Rattle.floats.proofs.as_float.Goals as goal
 
 pub value-requires : goal.value-requires
 unfolding FitsIn
-value-requires c = subst FitsIn c.r-1.given.1 (search rules)
+value-requires c = subst FitsIn c.in-Is.is (search rules)
 
 pub returns-in-Is : goal.returns-in-Is
 unfolding as_float
-returns-in-Is c = ap Is c.value.ensures ∙ ap as_float (sym c.r-1.given.1)
+returns-in-Is c = ap Is c.value.ensures ∙ ap as_float (sym c.in-Is.is)
 
 pub returns-in-Refused : goal.returns-in-Refused
 unfolding as_float
-returns-in-Refused c = ap as_float (sym c.r-in-Refused-1.given.1)
+returns-in-Refused c = ap as_float (sym c.in-Refused.is)

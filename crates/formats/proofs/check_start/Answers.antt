@@ -6,8 +6,8 @@ use Rattle.formats.proofs.check_start.Goals as goal
 
 pub returns-in-Is : goal.returns-in-Is
 unfolding check_start
-returns-in-Is c = ap (λ (f : Format). f.check_start) (ap format_in (sym c.f-1.given.1) ∙ c.of.ensures.1)
+returns-in-Is c = ap (λ (f : Format). f.check_start) (ap format_in (sym c.in-Is.is) ∙ c.of.ensures.1)
 
 pub returns-in-Refused : goal.returns-in-Refused
 unfolding check_start
-returns-in-Refused c = ap (λ (f : Format). f.check_start) (ap format_in (sym c.enum_told-1.given.1) ∙ c.of.ensures.1)
+returns-in-Refused c = ap (λ (f : Format). f.check_start) (ap format_in (sym c.in-Refused.is) ∙ c.of.ensures.1)

@@ -4,8 +4,8 @@ use Rattle.rack_document.proofs.date_given.Goals as goal
 
 pub returns-in-Is : goal.returns-in-Is
 unfolding date_given
-returns-in-Is c = rw c.a-1.given.1
+returns-in-Is c = rw c.in-Is.is
 
 pub returns-in-Refused : goal.returns-in-Refused
 unfolding date_given
-returns-in-Refused c = rw c.a-in-Refused-1.given.1
+returns-in-Refused c = rw c.in-Refused.is

@@ -4,8 +4,8 @@ use Rattle.rack_document.proofs.scan_given.Goals as goal
 
 pub returns-in-Is : goal.returns-in-Is
 unfolding scan_given
-returns-in-Is c = rw c.a-1.given.1 c.mode.ensures
+returns-in-Is c = rw c.in-Is.is c.mode.ensures
 
 pub returns-in-Refused : goal.returns-in-Refused
 unfolding scan_given name_given
-returns-in-Refused c = rw c.a-in-Refused-1.given.1
+returns-in-Refused c = rw c.in-Refused.is

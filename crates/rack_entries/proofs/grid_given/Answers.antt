@@ -5,8 +5,8 @@ use Rattle.rack_entries.proofs.grid_given.Goals as goal
 
 pub returns-in-Is : goal.returns-in-Is
 unfolding grid_given
-returns-in-Is c = rw c.a-1.given.1 (search rules)
+returns-in-Is c = rw c.in-Is.is (search rules)
 
 pub returns-in-Refused : goal.returns-in-Refused
 unfolding grid_given
-returns-in-Refused c = rw c.a-in-Refused-1.given.1
+returns-in-Refused c = rw c.in-Refused.is

@@ -5,8 +5,8 @@ use Rattle.rack_entries.proofs.orbit_given.Goals as goal
 
 pub returns-in-Is : goal.returns-in-Is
 unfolding orbit_given
-returns-in-Is c = rw c.a-1.given.1
+returns-in-Is c = rw c.in-Is.is
 
 pub returns-in-Refused : goal.returns-in-Refused
 unfolding orbit_given
-returns-in-Refused c = rw (c.a-in-Refused-1.given.1, zero_bits)
+returns-in-Refused c = rw (c.in-Refused.is, zero_bits)

@@ -5,8 +5,8 @@ use Rattle.rack_ground.proofs.format_given.Goals as goal
 
 pub returns-in-Is : goal.returns-in-Is
 unfolding format_given
-returns-in-Is c = sym (ap format_given c.a-1.given.1)
+returns-in-Is c = sym (ap format_given c.in-Is.is)
 
 pub returns-in-Refused : goal.returns-in-Refused
 unfolding format_given
-returns-in-Refused c = sym (ap format_given c.a-in-Refused-1.given.1)
+returns-in-Refused c = sym (ap format_given c.in-Refused.is)

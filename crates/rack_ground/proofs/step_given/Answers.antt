@@ -6,8 +6,8 @@ use Rattle.rack_ground.proofs.step_given.Goals as goal
 
 pub returns-in-Bit : goal.returns-in-Bit
 unfolding step_given
-returns-in-Bit c = sym (ap (λ (a : StepBit). step_given a c.args.register) c.a-1.given.1)
+returns-in-Bit c = sym (ap (λ (a : StepBit). step_given a c.args.register) c.in-Bit.is)
 
 pub returns-in-Refused : goal.returns-in-Refused
 unfolding step_given
-returns-in-Refused c = sym (ap (λ (a : StepBit). step_given a c.args.register) c.a-in-Refused-1.given.1)
+returns-in-Refused c = sym (ap (λ (a : StepBit). step_given a c.args.register) c.in-Refused.is)

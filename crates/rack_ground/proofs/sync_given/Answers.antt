@@ -6,8 +6,8 @@ use Rattle.rack_ground.proofs.sync_given.Goals as goal
 
 pub returns-in-Put : goal.returns-in-Put
 unfolding sync_given count_given
-returns-in-Put c = sym (ap sync_given c.a-1.given.1)
+returns-in-Put c = sym (ap sync_given c.in-Put.is)
 
 pub returns-in-Refused : goal.returns-in-Refused
 unfolding sync_given count_given
-returns-in-Refused c = sym (ap sync_given c.a-in-Refused-1.given.1)
+returns-in-Refused c = sym (ap sync_given c.in-Refused.is)

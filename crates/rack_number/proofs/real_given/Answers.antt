@@ -5,8 +5,8 @@ use Rattle.rack_number.proofs.real_given.Goals as goal
 
 pub returns-in-Is : goal.returns-in-Is
 unfolding real_given
-returns-in-Is c = rw c.a-1.given.1 refl
+returns-in-Is c = rw c.in-Is.is refl
 
 pub returns-in-Refused : goal.returns-in-Refused
 unfolding real_given
-returns-in-Refused c = rw c.a-in-Refused-1.given.1 refl
+returns-in-Refused c = rw c.in-Refused.is refl

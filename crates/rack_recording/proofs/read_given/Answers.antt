@@ -6,12 +6,12 @@ use Rattle.rack_recording.proofs.read_given.Goals as goal
 
 pub returns-in-Refused : goal.returns-in-Refused
 unfolding read_given refused_read
-returns-in-Refused c = rw c.a-1.given.1 c.refused_read.ensures
+returns-in-Refused c = rw c.in-Refused.is c.refused_read.ensures
 
 pub returns-in-More : goal.returns-in-More
 unfolding read_given
-returns-in-More c = rw c.a-in-More-1.given.1 (ap (λ s. record { refused = 0; complete = false; taken = c.a-in-More-1.given.0.0; state = s }) c.kept.ensures)
+returns-in-More c = rw c.in-More.is (ap (λ s. record { refused = 0; complete = false; taken = c.in-More.taken; state = s }) c.kept.ensures)
 
 pub returns-in-Line : goal.returns-in-Line
 unfolding read_given
-returns-in-Line c = rw c.a-in-Line-1.given.1 (ap (λ s. record { refused = 0; complete = true; taken = c.a-in-Line-1.given.0.0; state = s }) c.kept-in-Line.ensures)
+returns-in-Line c = rw c.in-Line.is (ap (λ s. record { refused = 0; complete = true; taken = c.in-Line.taken; state = s }) c.kept-in-Line.ensures)

@@ -5,8 +5,8 @@ use Rattle.rack_recording.proofs.written_given.Goals as goal
 
 pub returns-in-Put : goal.returns-in-Put
 unfolding written_given count_given
-returns-in-Put c = rw c.a-1.given.1
+returns-in-Put c = rw c.in-Put.is
 
 pub returns-in-Refused : goal.returns-in-Refused
 unfolding written_given count_given
-returns-in-Refused c = rw c.a-in-Refused-1.given.1
+returns-in-Refused c = rw c.in-Refused.is

@@ -4,7 +4,7 @@ use Rattle.rack_report.proofs.Across.{given_range}
 use Rattle.rack_report.proofs.channel_given.Goals as goal
 
 pub returns-in-Absent : goal.returns-in-Absent
-returns-in-Absent c = given_range _ _ _ _ (sym c.enum_told-1.given.1)
+returns-in-Absent c = given_range _ _ _ _ (sym c.in-Absent.is)
 
 pub returns-in-From : goal.returns-in-From
-returns-in-From c = given_range _ _ _ _ (sym c.range-1.given.1)
+returns-in-From c = given_range _ _ _ _ (sym c.in-From.is)

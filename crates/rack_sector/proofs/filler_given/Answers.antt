@@ -5,8 +5,8 @@ use Rattle.rack_sector.proofs.filler_given.Goals as goal
 
 pub returns-in-Set : goal.returns-in-Set
 unfolding filler_given count_given
-returns-in-Set c = rw c.a-1.given.1
+returns-in-Set c = rw c.in-Set.is
 
 pub returns-in-Refused : goal.returns-in-Refused
 unfolding filler_given count_given
-returns-in-Refused c = rw c.a-in-Refused-1.given.1
+returns-in-Refused c = rw c.in-Refused.is

@@ -5,8 +5,8 @@ use Rattle.rack_sector.proofs.strip_given.Goals as goal
 
 pub returns-in-Parts : goal.returns-in-Parts
 unfolding strip_given
-returns-in-Parts c = rw c.a-1.given.1 refl
+returns-in-Parts c = rw c.in-Parts.is refl
 
 pub returns-in-Refused : goal.returns-in-Refused
 unfolding strip_given
-returns-in-Refused c = rw c.a-in-Refused-1.given.1
+returns-in-Refused c = rw c.in-Refused.is

@@ -42,14 +42,14 @@ seek-requires c = let f = facts _ (known c.before.before.before).possible in (f.
 pub to_line-requires-in-Found : goal.to_line-requires-in-Found
 to_line-requires-in-Found c =
     let at-seek = at-taken.before.before in
-    fill_found c.seek.ensures c.taken-1.given.1 (omega arith) (omega arith) (known at-seek.before.before.before).long
+    fill_found c.seek.ensures c.in-Found.is (omega arith) (omega arith) (known at-seek.before.before.before).long
 
 pub returns-in-Nothing : goal.returns-in-Nothing
 returns-in-Nothing c =
     let at_1 = at_2.before in
     let args = (start at_1.before).args in
     read-call args.format args.setting args.state args.piece.now args.line.now _ c.read_refusal-refused.ensures c.if-refused-ne0.false c.if-piece-eq0.false
-    (call_as (sought_none args.line.now c.seek.ensures c.count-1.given.1 c.between.ensures)
+    (call_as (sought_none args.line.now c.seek.ensures c.in-Nothing.is c.between.ensures)
     (call-out args.setting args.state args.piece.now args.line.now c.if-piece-eq0.false c.if-state.false))
 
 pub returns-in-Found : goal.returns-in-Found
@@ -58,4 +58,4 @@ returns-in-Found c =
     let args = (start at_1.before).args in
     read-call args.format args.setting args.state args.piece.now args.line.now _ c.read_refusal-refused.ensures c.if-refused-ne0.false c.if-piece-eq0.false
     (call_as (c.to_line-in-Found.ensures.at args.setting)
-    (call-out args.setting args.state args.piece.now args.line.now c.if-piece-eq0.false c.if-state.false ∙ sought_found args.line.now c.seek.ensures c.taken-1.given.1))
+    (call-out args.setting args.state args.piece.now args.line.now c.if-piece-eq0.false c.if-state.false ∙ sought_found args.line.now c.seek.ensures c.in-Found.is))

@@ -4,8 +4,8 @@ use Rattle.reader_line.proofs.to_line.Goals as goal
 
 pub returns-in-Whole : goal.returns-in-Whole
 returns-in-Whole c =
-    filled_whole c.fill.ensures c.taken-1.given.1 c.between.ensures
+    filled_whole c.fill.ensures c.in-Whole.is c.between.ensures
 
 pub returns-in-Part : goal.returns-in-Part
 returns-in-Part c =
-    filled_part c.fill.ensures c.place-1.given.1 c.inside.ensures
+    filled_part c.fill.ensures c.in-Part.is c.inside.ensures

@@ -14,15 +14,15 @@ refusal : (c : tie.After-place_refusal-refused) → let a = c.args in
 refusal c =
     let a = c.args in
     c.place_refusal-refused.ensures
-    ∙ ap (λ (r : Revisions). place_refusal a.number a.assembly r a.line.now a.segment a.block.now) c.revisions-in.ensures
+    ∙ ap (λ (r : Revisions). place_refusal a.number a.assembly r a.line.now a.segment a.block.now) c.revisions_in-carried.ensures
 
 -- and so are the numbers that the assembly remembers
 from-now-on : (c : tie.After-remembered-revisions) → let a = c.args in
     c.remembered-revisions.result ≡ remembered a.assembly (revisions_in a.line.now)
 from-now-on c =
     let a = c.args in
-    let told : c.remembered-revisions.result ≡ remembered a.assembly c.revisions-in.result = c.remembered-revisions.ensures in
-    told ∙ ap (remembered a.assembly) c.revisions-in.ensures
+    let told : c.remembered-revisions.result ≡ remembered a.assembly c.revisions_in-carried.result = c.remembered-revisions.ensures in
+    told ∙ ap (remembered a.assembly) c.revisions_in-carried.ensures
 
 pub revisions_in-carried-requires : goal.revisions_in-carried-requires
 revisions_in-carried-requires c = c.requires.long

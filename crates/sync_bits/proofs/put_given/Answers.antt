@@ -10,15 +10,15 @@ use Rattle.sync_bits.proofs.put_given.Goals as goal
 
 pub put_bit-requires : goal.put_bit-requires
 put_bit-requires c =
-    let small = subst (λ (a : StepBit). step_bit a < 2) c.a-1.given.1 c.requires.1 in
+    let small = subst (λ (a : StepBit). step_bit a < 2) c.in-Bit.is c.requires.1 in
     (c.requires.0, omega (arith, small))
 
 pub returns-in-Bit : goal.returns-in-Bit
 returns-in-Bit c =
     let args = c.args in
-    c.put_bit.ensures ∙ ap (set (bits_of args.s.now) args.at) (sym (ap step_bit c.a-1.given.1))
+    c.put_bit.ensures ∙ ap (set (bits_of args.s.now) args.at) (sym (ap step_bit c.in-Bit.is))
 
 pub returns-in-Refused : goal.returns-in-Refused
 returns-in-Refused c =
     let args = c.args in
-    c.put_bit-in-Refused.ensures ∙ ap (set (bits_of args.s.now) args.at) (sym (ap step_bit c.enum_told-1.given.1))
+    c.put_bit-in-Refused.ensures ∙ ap (set (bits_of args.s.now) args.at) (sym (ap step_bit c.in-Refused.is))

@@ -28,24 +28,24 @@ loop-i-init c =
 
 pub put_bit-requires : goal.put_bit-requires
 put_bit-requires c =
-    let here : c.args.from + c.loop.i < 8 * length c.loop.s = omega arith in
+    let here : c.args.from + c.loop-i.i < 8 * length c.loop-i.s = omega arith in
     (here, rw c.mix_bit-t.ensures.1 (plain_lt _ _ _))
 
 pub loop-i-preserved : goal.loop-i-preserved
 loop-i-preserved c =
     let args = c.args in
     let s₀ = args.s.now in
-    let i = c.loop.i in
+    let i = c.loop-i.i in
     let r = args.r.bits in
     let b = c.bit_at-b.result in
     let t = c.mix_bit-t.result.bit in
     let target₀ = target s₀ args.from args.count args.place r in
-    let more : i < args.count = c.loop-test.true in
+    let more : i < args.count = c.loop-i-test.true in
     let in-bits : args.from + i < length (bits_of s₀) = rw length_bits (omega (arith, c.requires.0)) in
     let in-target : i < length target₀ = rw (target-length s₀ args.from args.count args.place r c.requires.0) more in
     let here : b ≡ get_or (bits_of s₀) (args.from + i) 0 = cc (paste_next (bits_of s₀) args.from target₀ i in-bits in-target) in
     let value : t ≡ get_or target₀ i 0 = target_at s₀ args.from args.count args.place r c.requires.0 i b t more here
-    (c.mix_bit-t.ensures.1 ∙ ap (λ (x : ℕ). plain_bit (args.place + i) x b) c.loop.invariant.3) in
+    (c.mix_bit-t.ensures.1 ∙ ap (λ (x : ℕ). plain_bit (args.place + i) x b) c.loop-i.invariant.3) in
     let turn = paste_turn (bits_of s₀) args.from target₀ i t in-bits in-target value in
     (search rules, cc turn, search rules, cc (register_turn i r))
 

@@ -24,8 +24,8 @@ loop-i-init c =
 
 pub loop-i-preserved : goal.loop-i-preserved
 loop-i-preserved c =
-    let inv = c.loop.invariant in
-    let inside : c.args.first + c.loop.i * 8 + 8 ≤ length c.args.s.now = omega (arith, c.requires, c.loop-test.true) in (
+    let inv = c.loop-i.invariant in
+    let inside : c.args.first + c.loop-i.i * 8 + 8 ≤ length c.args.s.now = omega (arith, c.requires, c.loop-i-test.true) in (
       search rules,
       ap length c.put_word.ensures ∙ stored_length 8 _ _ _ ∙ inv.1,
       λ j. (c.slice_known-in-loop-i-1.given j).fits,

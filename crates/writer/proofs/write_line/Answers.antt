@@ -9,13 +9,13 @@ use Rattle.writer.proofs.write_line.Goals as goal
 pub returns-then-refused-ne0 : goal.returns-then-refused-ne0
 returns-then-refused-ne0 c =
     let args = c.args in
-    write-short args.format args.line.now args.out.now _ (sym (format-is _ _ c.of.ensures) ∙ c.f-1.given.1) _
+    write-short args.format args.line.now args.out.now _ (sym (format-is _ _ c.of.ensures) ∙ c.in-Is.is) _
     (c.first-refused.ensures ∙ ap₂ first c.short.ensures c.short-in-Is.ensures) c.if-refused-ne0.true
 
 pub put_line-requires : goal.put_line-requires
 put_line-requires c =
     let args = c.args in
-    let known = sym (format-is _ _ c.of.ensures) ∙ c.f-1.given.1 in
+    let known = sym (format-is _ _ c.of.ensures) ∙ c.in-Is.is in
     let short = c.first-refused.ensures ∙ ap₂ first c.short.ensures c.short-in-Is.ensures in
     record {
       number = args.format;
@@ -27,12 +27,12 @@ put_line-requires c =
 pub returns-in-Refused : goal.returns-in-Refused
 returns-in-Refused c =
     let args = c.args in
-    write-unknown args.format args.line.now args.out.now _ (sym (format-is _ _ c.of.ensures) ∙ c.number-1.given.1)
+    write-unknown args.format args.line.now args.out.now _ (sym (format-is _ _ c.of.ensures) ∙ c.in-Refused.is)
 
 pub returns-else-refused-ne0 : goal.returns-else-refused-ne0
 returns-else-refused-ne0 c =
     let args = c.args in
-    write_done args.format args.line.now args.out.now _ (sym (format-is _ _ c.of.ensures) ∙ c.f-1.given.1) _
+    write_done args.format args.line.now args.out.now _ (sym (format-is _ _ c.of.ensures) ∙ c.in-Is.is) _
     (c.first-refused.ensures ∙ ap₂ first c.short.ensures c.short-in-Is.ensures) c.if-refused-ne0.false _
     (below_all 256 args.out.now (λ i. (c.slice_known-1.given i).fits))
     (below_all 256 _ (λ i. (c.slice_known-in-Is-1.given i).fits))

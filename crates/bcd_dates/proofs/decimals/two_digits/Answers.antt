@@ -10,10 +10,10 @@ use Rattle.bcd_dates.specs.Decimals.{bcd_in, bcd_at}
 use Rattle.bcd_dates.proofs.decimals.two_digits.Tie as tie
 use Rattle.bcd_dates.proofs.decimals.two_digits.Goals as goal
 
-is_read : (c : tie.In-Is-2) → let args = c.args in bcd_in args.bytes.now args.at 1 ≡ Is c.v-1.given.0.0
-is_read c = sym c.bcd_in.ensures ∙ c.v-1.given.1
+is_read : (c : tie.In-Is-2) → let args = c.args in bcd_in args.bytes.now args.at 1 ≡ Is c.in-Is.v
+is_read c = sym c.bcd_in.ensures ∙ c.in-Is.is
 
-small : (c : tie.In-Is-2) → c.v-1.given.0.0 < 100
+small : (c : tie.In-Is-2) → c.in-Is.v < 100
 unfolding bcd_in
 small c = bcd_lt 1 _ _ (is_read c)
 
@@ -26,4 +26,4 @@ returns-in-Is c = (ap bcd_value (sym (is_read c.before.before)), small c.before.
 
 pub returns-in-Refused : goal.returns-in-Refused
 unfolding bcd_at
-returns-in-Refused c = (ap bcd_value (sym c.enum_told-1.given.1 ∙ c.bcd_in.ensures), lit< tt)
+returns-in-Refused c = (ap bcd_value (sym c.in-Refused.is ∙ c.bcd_in.ensures), lit< tt)

@@ -6,18 +6,18 @@ use Rattle.blocks.proofs.assembly.revision_of.Goals as goal
 
 pub returns-in-3 : goal.returns-in-3
 unfolding revision_of
-returns-in-3 c = rw c.in-3.keys1 refl
+returns-in-3 c = rw c.in-3.is refl
 
 pub returns-in-4 : goal.returns-in-4
 unfolding revision_of
-returns-in-4 c = rw c.in-4.keys2 refl
+returns-in-4 c = rw c.in-4.is refl
 
 pub returns-in-5 : goal.returns-in-5
 unfolding revision_of
-returns-in-5 c = rw c.in-5.keys3 refl
+returns-in-5 c = rw c.in-5.is refl
 
 pub returns-in_default : goal.returns-in_default
 returns-in_default c =
     let a = c.args in
-    let r = c.in_default.rest in
+    let r = c.in_default.in_default-own.rest in
     no_revision a.number a.revisions r.0.0.1 r.0.1 r.1

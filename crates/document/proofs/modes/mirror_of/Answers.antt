@@ -5,18 +5,18 @@ use borrow.Author.Tests.{ne_eqb}
 use Rattle.document.proofs.modes.mirror_of.Goals as goal
 
 pub returns-in-255 : goal.returns-in-255
-returns-in-255 c = rw c.in-255.keys1 refl
+returns-in-255 c = rw c.in-255.is refl
 
 pub returns-in-240 : goal.returns-in-240
-returns-in-240 c = rw c.in-240.keys2 refl
+returns-in-240 c = rw c.in-240.is refl
 
 pub returns-in-0 : goal.returns-in-0
-returns-in-0 c = rw c.in-0.keys3 refl
+returns-in-0 c = rw c.in-0.is refl
 
 pub returns-in-15 : goal.returns-in-15
-returns-in-15 c = rw c.in-15.keys4 refl
+returns-in-15 c = rw c.in-15.is refl
 
 pub returns-in_default : goal.returns-in_default
 returns-in_default c =
-    let other = c.in_default.rest in
+    let other = c.in_default.in_default-own.rest in
     simp (ne_eqb _ _ other.0.0.0.1, ne_eqb _ _ other.0.0.1, ne_eqb _ _ other.0.1, ne_eqb _ _ other.1)

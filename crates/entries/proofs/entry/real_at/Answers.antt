@@ -14,7 +14,7 @@ reads c =
     real_read c.args.block.now c.args.place c.args.n c.requires.0 c.requires.1 c.args.m _ c.requires.2 c.read_real.ensures
 
 pub returns-in-Is : goal.returns-in-Is
-returns-in-Is c = ap real_value (sym c.r-1.given.1) ∙ reads c.before.before.before.before
+returns-in-Is c = ap real_value (sym c.in-Is.is) ∙ reads c.before.before.before.before
 
 pub returns-in-Refused : goal.returns-in-Refused
-returns-in-Refused c = ap real_value (sym c.enum_told-1.given.1) ∙ reads c.before.before.before
+returns-in-Refused c = ap real_value (sym c.in-Refused.is) ∙ reads c.before.before.before

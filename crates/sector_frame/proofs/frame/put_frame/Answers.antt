@@ -15,7 +15,7 @@ returns c =
     let s = a.line.now in
     let long : l.start + l.bits ≤ length (bits_of s) = rw length_bits (ends l (length s) c.requires.0 c.requires.1) in
     framed a.start l (bits_of s) _ _ _ _ c.requires.0 long
-    c.put-field.ensures
+    c.put_field.ensures
     c.check_word-word.ensures
     c.put_field-2.ensures
     c.put_filler.ensures

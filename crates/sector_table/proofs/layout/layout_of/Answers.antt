@@ -8,7 +8,7 @@ use Rattle.sector_table.proofs.layout.layout_of.Goals as goal
 
 pub returns-in-1 : goal.returns-in-1
 unfolding layout_of sectors
-returns-in-1 c = ap (λ (i : ℕ). row 0 20408 16 i 18328 2291 8) c.id_of-id.ensures ∙ rw c.in-1.keys1
+returns-in-1 c = ap (λ (i : ℕ). row 0 20408 16 i 18328 2291 8) c.id_of-id.ensures ∙ rw c.in-1.is
 
 pub returns-in-2-to-4 : goal.returns-in-2-to-4
 returns-in-2-to-4 c =
