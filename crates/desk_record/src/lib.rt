@@ -4,6 +4,8 @@
 // The contracts cite `specs/Slots.antt`; `specs/Desks.antt` says which desks are possible, refusal 12.
 //
 // All functions here are inner.
+#![tactic(auto)]
+
 ghost use Rattle.std.specs.Prelude.{◌≡◌, ◌&&◌, not, ltb, leb, eqb};
 ghost use Rattle.desk_record.specs.Slots.{is_free, serial_of, filling_as, held_by, held_or, let_go, sound_use, busy_as};
 
