@@ -7,8 +7,8 @@ use native.Mathlib.Nat.{add_comm, zero-add, add-zero, suc-add, add_assoc, suc-mu
 use native.Mathlib.Omega.{arith}
 use lib.Bits.{bit_or, bit_xor, xor_block, xor_zero_l, xor_shifted, or_shifted_r}
 use lib.Dec.{lit≤}
-use lib.ListN.{length, get_or, take, set, length-set}
-use lib.Pow.{pow-add, high, low, shl-shr, shl_exact, shr-shr, mod-pow-add}
+use lib.ListN.{length, get_or, take, length-set}
+use lib.Pow.{pow-add, high, low, shl-shr, shl_exact, mod-pow-add}
 use lib.Seq.{get_or-set_other, drop-cons}
 use Rattle.bits.specs.Bits.{digits, bits_of, stretch, set_bits}
 use Rattle.bits.proofs.Bytes.{no_bits, bits_cons}

@@ -1,14 +1,14 @@
 -- Some places of numbers, by a mask: an exclusive or goes through the mask, and no more bits are set there than in all. Assumes nothing.
 use mathlib.Core.Path.{◌≡◌, refl, sym, ap, ap₂, ◌∙◌}
 use mathlib.Core.Bool.{Bool, true, false}
-use Prim.Native.Nat.{ℕ, zero, suc, ◌+◌, ◌-◌, ◌*◌, ◌/◌, ◌%◌, ◌^◌, ◌≤◌, ◌<◌, zero-le, min}
+use Prim.Native.Nat.{ℕ, zero, suc, ◌/◌, ◌%◌, ◌^◌, ◌≤◌, min}
 use native.Mathlib.Nat.{min-zero, min-eq_left, mod-lt, le_refl, zero-lt-suc, le_of_suc-le-suc}
 use native.Mathlib.Omega.{arith}
 use borrow.Author.Tests.{eqb-true, eqb-false}
 use lib.Arith.{bin_ind}
-use lib.Bits.{bit_and, bit_xor, and_step, and_shr, xor_shr, xor_add_and, and_le_r, xor_zero_l, and_zero_l}
+use lib.Bits.{bit_and, bit_xor, and_step, and_shr, xor_shr, xor_zero_l, and_zero_l}
 use lib.Dec.{eqb}
-use Rattle.bits.specs.Bits.{digits, set_bits, through}
+use Rattle.bits.specs.Bits.{digits, set_bits}
 use Rattle.bits.proofs.Counts.{set_cons}
 use Rattle.bits.proofs.Xor.{xor_parity}
 

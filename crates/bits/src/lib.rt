@@ -1,3 +1,5 @@
+#![tactic(auto)]
+
 // Strings of bits and of bytes, without code: what they are, and what holds of them. `slices` has the functions that read
 // bits, `slice_writer` those that put them, `octets` those on whole bytes.
 //
