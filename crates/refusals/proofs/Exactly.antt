@@ -1,6 +1,6 @@
 -- WHEN A NUMBER OF A CHAIN IS GIVEN, exactly: no test before its own applies, and its own does. Said once for every number that a
 -- chain has in one place. Assumes nothing.
-use mathlib.Core.Bool.{Bool, true, false, true≢false, not, ◌&&◌, and-eq-true_iff}
+use mathlib.Core.Bool.{Bool, true, false, true≢false, not, and-eq-true_iff}
 use mathlib.Core.List.{List, [], ◌∷◌, ◌++◌}
 use mathlib.Core.Logic.{◌↔◌}
 use mathlib.Core.Path.{◌≡◌, refl, sym, ap, ◌∙◌}

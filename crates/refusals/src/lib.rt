@@ -3,6 +3,8 @@
 //
 // The contracts cite `specs/Refusals.antt`. The table's order stands once, in `specs/Order.antt`; `demands` holds every call's
 // chain to it. No function here has a `requires`.
+#![tactic(auto)]
+
 ghost use Rattle.std.specs.Prelude.{◌≡◌};
 ghost use Rattle.refusals.specs.Refusals.{first, short_of, outside_of};
 
