@@ -13,7 +13,7 @@ pub returns-then-not-is_marked : goal.returns-then-not-is_marked
 returns-then-not-is_marked c =
     let a = c.args in
     refused-new a.number a.assembly a.carried a.line.now a.segment a.block.now c.foreign_refusal-foreign.result c.foreign_refusal-foreign.ensures
-    (sym c.is_marked.ensures ∙ not-true _ c.if-not-is_marked.true)
+    (sym c.is_marked.ensures ∙ c.if-not-is_marked.true)
 
 pub differs_refusal-differs-requires : goal.differs_refusal-differs-requires
 differs_refusal-differs-requires c =
@@ -22,4 +22,4 @@ differs_refusal-differs-requires c =
 
 pub returns : goal.returns
 returns c =
-    refused-stored _ _ _ _ _ _ _ c.foreign_refusal-foreign.ensures _ _ (sym c.is_marked.ensures ∙ not-false _ c.if-not-is_marked.false) c.differs_refusal-differs.ensures c.block_of.ensures _ c.first.ensures
+    refused-stored _ _ _ _ _ _ _ c.foreign_refusal-foreign.ensures _ _ (sym c.is_marked.ensures ∙ c.if-not-is_marked.false) c.differs_refusal-differs.ensures c.block_of.ensures _ c.first.ensures

@@ -16,17 +16,17 @@ returns-then-r-ne0 c = change_refused _ _ _ _ c.release_refusal-r.ensures c.if-r
 
 pub offset_bounds-d-slot : goal.offset_bounds-d-slot
 offset_bounds-d-slot c =
-    let a = release_served c.args.t1 _ _ _ _ (sym c.release_refusal-r.ensures ∙ c.if-r-ne0.false) in
+    let a = release_served c.args.d _ _ _ _ (sym c.release_refusal-r.ensures ∙ c.if-r-ne0.false) in
     omega (arith, a.below, a.counts.most)
 
 pub bounds-d-slot : goal.bounds-d-slot
 bounds-d-slot c =
-    let a = release_served c.args.t1 _ _ _ _ (sym c.release_refusal-r.ensures ∙ c.if-r-ne0.false) in
+    let a = release_served c.args.d _ _ _ _ (sym c.release_refusal-r.ensures ∙ c.if-r-ne0.false) in
     omega (arith, a.below, a.counts.most)
 
 pub with_slot-e-requires : goal.with_slot-e-requires
 with_slot-e-requires c =
-    let a = release_served c.args.t1 _ _ _ _ (sym c.release_refusal-r.ensures ∙ c.if-r-ne0.false) in
+    let a = release_served c.args.d _ _ _ _ (sym c.release_refusal-r.ensures ∙ c.if-r-ne0.false) in
     omega (arith, a.below, a.counts.most)
 
 pub returns : goal.returns

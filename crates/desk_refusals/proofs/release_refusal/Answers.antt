@@ -12,7 +12,7 @@ unfolding release_refusal
 returns-then-r-ne0 c = refused _ _ _ c.slot_refusal-r.ensures c.if-r-ne0.true
 
 pub rest_refusal-q-requires : goal.rest_refusal-q-requires
-rest_refusal-q-requires c = (slot_counted c.args.t1 _ (sym c.slot_refusal-r.ensures ∙ c.if-r-ne0.false)).most
+rest_refusal-q-requires c = (slot_counted c.args.d _ (sym c.slot_refusal-r.ensures ∙ c.if-r-ne0.false)).most
 
 pub returns-then-q-ne0 : goal.returns-then-q-ne0
 unfolding release_refusal
@@ -22,15 +22,15 @@ returns-then-q-ne0 c =
 pub offset_bounds-d-slot : goal.offset_bounds-d-slot
 offset_bounds-d-slot c =
     let e = sym c.slot_refusal-r.ensures ∙ c.if-r-ne0.false in
-    let a = slot_counted c.args.t1 c.args.slot e in
-    let b = slot_below c.args.t1 c.args.slot e in
+    let a = slot_counted c.args.d c.args.slot e in
+    let b = slot_below c.args.d c.args.slot e in
     omega (arith, a.most)
 
 pub bounds-d-slot : goal.bounds-d-slot
 bounds-d-slot c =
     let e = sym c.slot_refusal-r.ensures ∙ c.if-r-ne0.false in
-    let a = slot_counted c.args.t1 c.args.slot e in
-    let b = slot_below c.args.t1 c.args.slot e in
+    let a = slot_counted c.args.d c.args.slot e in
+    let b = slot_below c.args.d c.args.slot e in
     omega (arith, a.most)
 
 pub returns-then-not-held_by : goal.returns-then-not-held_by

@@ -28,7 +28,7 @@ loop-i-smaller c = omega arith
 
 pub loop-i-preserved : goal.loop-i-preserved
 loop-i-preserved c =
-    let d = c.args.t1 in
+    let d = c.args.d in
     let n = c.args.n in
     let z : d.count - c.loop-i.i - 1 ≡ d.count - (c.loop-i.i + 1) = omega arith in (
       omega arith,

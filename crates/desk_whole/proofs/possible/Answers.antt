@@ -30,7 +30,7 @@ bounds-d-i c = omega arith
 
 pub returns-then-not-sound : goal.returns-then-not-sound
 returns-then-not-sound c =
-    sym (c.loop-i.invariant.1 ∙ possible-unsound _ _ _ c.loop-i.i (omega arith) (sym c.sound.ensures ∙ not-true _ c.if-not-sound.true))
+    sym (c.loop-i.invariant.1 ∙ possible-unsound _ _ _ c.loop-i.i (omega arith) (sym c.sound.ensures ∙ c.if-not-sound.true))
 
 pub alone-requires : goal.alone-requires
 alone-requires c = omega arith
@@ -38,8 +38,8 @@ alone-requires c = omega arith
 pub returns-then-not-alone : goal.returns-then-not-alone
 returns-then-not-alone c =
     sym (c.loop-i.invariant.1
-    ∙ possible-twice _ _ _ c.loop-i.i (omega arith) (sym c.sound.ensures ∙ not-false _ c.if-not-sound.false)
-    (alone_at c.args.t1 c.loop-i.i _ c.alone.ensures ∙ not-true _ c.if-not-alone.true))
+    ∙ possible-twice _ _ _ c.loop-i.i (omega arith) (sym c.sound.ensures ∙ c.if-not-sound.false)
+    (alone_at c.args.d c.loop-i.i _ c.alone.ensures ∙ c.if-not-alone.true))
 
 pub overflow_add-i : goal.overflow_add-i
 overflow_add-i c = omega arith
@@ -49,12 +49,12 @@ loop-i-smaller c = omega arith
 
 pub loop-i-preserved : goal.loop-i-preserved
 loop-i-preserved c =
-    let d = c.args.t1 in
+    let d = c.args.d in
     let z : d.count - c.loop-i.i - 1 ≡ d.count - (c.loop-i.i + 1) = omega arith in (
       omega arith,
       c.loop-i.invariant.1
-          ∙ possible-on _ _ _ c.loop-i.i (omega arith) (sym c.sound.ensures ∙ not-false _ c.if-not-sound.false)
-          (alone_at d c.loop-i.i _ c.alone.ensures ∙ not-false _ c.if-not-alone.false)
+          ∙ possible-on _ _ _ c.loop-i.i (omega arith) (sym c.sound.ensures ∙ c.if-not-sound.false)
+          (alone_at d c.loop-i.i _ c.alone.ensures ∙ c.if-not-alone.false)
           ∙ ap (λ (k : ℕ). possible_from (slot_of d) d.last k (c.loop-i.i + 1)) z,
     )
 

@@ -1,12 +1,11 @@
 -- `octets::whole` meets its contract: after n - left turns the number is that of the first n - left bytes.
 -- Assumes nothing.
 use mathlib.Core.Path.{◌≡◌, sym, ap₂, ◌∙◌}
-use Prim.Native.Nat.{ℕ, ◌+◌, ◌-◌, ◌*◌, ◌^◌, ◌<◌}
+use Prim.Native.Nat.{ℕ, ◌+◌, ◌-◌, ◌*◌, ◌^◌, ◌<◌, ◌≤◌}
 use native.Mathlib.Omega.{arith}
 use borrow.Author.Rules.{rules}
 use lib.Dec.{lit<}
 use Rattle.bits.proofs.Base.{base_take, base_none, digit_fits}
-use Rattle.octets.proofs.whole.Tie as tie
 use Rattle.octets.proofs.whole.Goals as goal
 
 pub loop-left-init : goal.loop-left-init
@@ -16,14 +15,14 @@ loop-left-init c =
     (search rules, rw none (sym (base_none 256)), rw none (lit< tt))
 
 -- a turn's number fits eight bytes, whatever the byte
-fits : (c : tie.In-loop invariant-loop decreases-loop) (d : ℕ) → d < 256 → c.before.loop.a * 256 + d < 256 ^ 8
-fits c d h = digit_fits 256 c.before.loop.a d (c.before.before.before.args.n - c.before.loop.left) 8 c.before.loop.invariant.2 h (search rules)
+fits : (n left a d : ℕ) → 0 < left → left ≤ n → n ≤ 8 → a < 256 ^ (n - left) → d < 256 → a * 256 + d < 256 ^ 8
+fits n left a d some within few small byte = digit_fits 256 a d (n - left) 8 small byte (omega arith)
 
 pub overflow_mul-a : goal.overflow_mul-a
-overflow_mul-a c = omega (arith, fits c.before 0 (lit< tt))
+overflow_mul-a c = omega (arith, fits _ _ _ 0 c.loop-left-test.true c.loop-left.invariant.0 c.requires.1 c.loop-left.invariant.2 (lit< tt))
 
 pub overflow_add-a : goal.overflow_add-a
-overflow_add-a c = omega (arith, fits c.before.before c.byte_at.result c.byte_at.ensures.1)
+overflow_add-a c = omega (arith, fits _ _ _ _ c.loop-left-test.true c.loop-left.invariant.0 c.requires.1 c.loop-left.invariant.2 c.byte_at.ensures.1)
 
 pub loop-left-preserved : goal.loop-left-preserved
 loop-left-preserved c =

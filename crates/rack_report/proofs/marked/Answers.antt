@@ -12,10 +12,10 @@ loop-i-init c = (omega arith, all_none _)
 
 pub returns-then-p-i-gt1 : goal.returns-then-p-i-gt1
 unfolding marked
-returns-then-p-i-gt1 c = sym (all_fails _ 4 c.loop-i.i (omega arith) (lt-leb (pixels_at c.args.t1 c.loop-i.i).present 1 (omega (arith, c.if-p-i-gt1.true))))
+returns-then-p-i-gt1 c = sym (all_fails _ 4 c.loop-i.i (omega arith) (lt-leb (pixels_at c.args.p c.loop-i.i).present 1 (omega (arith, c.if-p-i-gt1.true))))
 
 pub loop-i-preserved : goal.loop-i-preserved
-loop-i-preserved c = (omega arith, all_turn _ c.loop-i.i c.loop-i.invariant.1 (le-leb (pixels_at c.args.t1 c.loop-i.i).present 1 (omega (arith, c.if-p-i-gt1.false))))
+loop-i-preserved c = (omega arith, all_turn _ c.loop-i.i c.loop-i.invariant.1 (le-leb (pixels_at c.args.p c.loop-i.i).present 1 (omega (arith, c.if-p-i-gt1.false))))
 
 pub returns : goal.returns
 unfolding marked

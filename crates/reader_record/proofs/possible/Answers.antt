@@ -21,16 +21,16 @@ fields c =
     fields-left _ c.if-s-ge-INFORMATION_BITS.false c.if-s-gt63.false c.if-s-gt-FIFTEEN_ONES.false c.if-s-gt7.false
 
 first : (c : tie.Else-not-fits) → ltb (given c.before.before).search (2 ^ (given c.before.before).search_count) ≡ true
-first c = sym c.fits2.ensures ∙ not-false _ c.if-not-fits.false
+first c = sym c.fits2.ensures ∙ c.if-not-fits.false
 
 second : (c : tie.Else-not-fits-2) → ltb (given c.before.before.before.before.before).unread (2 ^ (given c.before.before.before.before.before).unread_count) ≡ true
-second c = ap (λ (x : ℕ). ltb x (2 ^ (given c.before.before.before.before.before).unread_count)) (sym c.wide.ensures) ∙ sym c.fits3.ensures ∙ not-false _ c.if-not-fits-2.false
+second c = ap (λ (x : ℕ). ltb x (2 ^ (given c.before.before.before.before.before).unread_count)) (sym c.wide.ensures) ∙ sym c.fits3.ensures ∙ c.if-not-fits-2.false
 
 second-no : (c : tie.Then-not-fits-2) → ltb (given c.before.before.before.before.before).unread (2 ^ (given c.before.before.before.before.before).unread_count) ≡ false
-second-no c = ap (λ (x : ℕ). ltb x (2 ^ (given c.before.before.before.before.before).unread_count)) (sym c.wide.ensures) ∙ sym c.fits3.ensures ∙ not-true _ c.if-not-fits-2.true
+second-no c = ap (λ (x : ℕ). ltb x (2 ^ (given c.before.before.before.before.before).unread_count)) (sym c.wide.ensures) ∙ sym c.fits3.ensures ∙ c.if-not-fits-2.true
 
 third : (c : tie.Else-not-counts) → counts_of (given c.before.before.before.before.before.before.before) ≡ true
-third c = sym c.counts.ensures ∙ not-false _ c.if-not-counts.false
+third c = sym c.counts.ensures ∙ c.if-not-counts.false
 
 pub returns-then-s-ge-INFORMATION_BITS : goal.returns-then-s-ge-INFORMATION_BITS
 returns-then-s-ge-INFORMATION_BITS c = no_place _ c.if-s-ge-INFORMATION_BITS.true
@@ -45,13 +45,13 @@ pub returns-then-s-gt7 : goal.returns-then-s-gt7
 returns-then-s-gt7 c = no-unread _ c.if-s-ge-INFORMATION_BITS.false c.if-s-gt63.false c.if-s-gt-FIFTEEN_ONES.false c.if-s-gt7.true
 
 pub returns-then-not-fits : goal.returns-then-not-fits
-returns-then-not-fits c = sym (fields c.before.before.before ∙ rw (sym c.fits2.ensures ∙ not-true _ c.if-not-fits.true))
+returns-then-not-fits c = sym (fields c.before.before.before ∙ rw (sym c.fits2.ensures ∙ c.if-not-fits.true))
 
 pub returns-then-not-fits-2 : goal.returns-then-not-fits-2
 returns-then-not-fits-2 c = sym (fields c.before.before.before.before.before.before ∙ rw (first c.before.before.before.before, second-no c.before))
 
 pub returns-then-not-counts : goal.returns-then-not-counts
-returns-then-not-counts c = sym (fields c.before.before.before.before.before.before.before.before ∙ rw (first c.before.before.before.before.before.before, second c.before.before.before, sym c.counts.ensures ∙ not-true _ c.if-not-counts.true))
+returns-then-not-counts c = sym (fields c.before.before.before.before.before.before.before.before ∙ rw (first c.before.before.before.before.before.before, second c.before.before.before, sym c.counts.ensures ∙ c.if-not-counts.true))
 
 pub fits-requires-3 : goal.fits-requires-3
 fits-requires-3 c = omega (arith, counts-seven _ (third c.before.before))

@@ -11,7 +11,7 @@ pub loop-i-init : goal.loop-i-init
 loop-i-init c = (omega arith, row-none _ (replicate 12 c.no_tally-none.result), refl)
 
 pub add_tally-requires : goal.add_tally-requires
-add_tally-requires c = tally_room _ _ (possible_means c.args.t1 c.requires.0) (possible_means c.args.t2 c.requires.1) c.loop-i.i (omega arith)
+add_tally-requires c = tally_room _ _ (possible_means c.args.a c.requires.0) (possible_means c.args.b c.requires.1) c.loop-i.i (omega arith)
 
 pub loop-i-preserved : goal.loop-i-preserved
 loop-i-preserved c = (omega arith, row-turn _ c.loop-i.out c.loop-i.i c.add_tally.result c.loop-i.invariant.1 c.add_tally.ensures (omega arith), length-set c.loop-i.out c.loop-i.i c.add_tally.result ∙ c.loop-i.invariant.2)

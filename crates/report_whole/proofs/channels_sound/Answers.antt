@@ -12,10 +12,10 @@ loop-i-init c = (omega arith, all_none _)
 
 pub returns-then-not-sound_channel : goal.returns-then-not-sound_channel
 unfolding channels_sound
-returns-then-not-sound_channel c = sym (all_fails _ 4 c.loop-i.i (omega arith) (sym c.sound_channel.ensures ∙ not-true _ c.if-not-sound_channel.true))
+returns-then-not-sound_channel c = sym (all_fails _ 4 c.loop-i.i (omega arith) (sym c.sound_channel.ensures ∙ c.if-not-sound_channel.true))
 
 pub loop-i-preserved : goal.loop-i-preserved
-loop-i-preserved c = (omega arith, all_turn _ c.loop-i.i c.loop-i.invariant.1 (sym c.sound_channel.ensures ∙ not-false _ c.if-not-sound_channel.false))
+loop-i-preserved c = (omega arith, all_turn _ c.loop-i.i c.loop-i.invariant.1 (sym c.sound_channel.ensures ∙ c.if-not-sound_channel.false))
 
 pub returns : goal.returns
 unfolding channels_sound

@@ -8,11 +8,11 @@ pub returns-then-a-gt-MOST_LINES : goal.returns-then-a-gt-MOST_LINES
 returns-then-a-gt-MOST_LINES c = record-over _ c.if-a-gt-MOST_LINES.true
 
 pub returns-then-not-sectors_sound : goal.returns-then-not-sectors_sound
-returns-then-not-sectors_sound c = record-sectors _ (sym c.sectors_sound.ensures ∙ not-true _ c.if-not-sectors_sound.true)
+returns-then-not-sectors_sound c = record-sectors _ (sym c.sectors_sound.ensures ∙ c.if-not-sectors_sound.true)
 
 pub returns-then-not-channels_sound : goal.returns-then-not-channels_sound
-returns-then-not-channels_sound c = record-channels _ (sym c.channels_sound.ensures ∙ not-true _ c.if-not-channels_sound.true)
+returns-then-not-channels_sound c = record-channels _ (sym c.channels_sound.ensures ∙ c.if-not-channels_sound.true)
 
 pub returns : goal.returns
-returns c = record-passed _ c.if-a-gt-MOST_LINES.false (sym c.sectors_sound.ensures ∙ not-false _ c.if-not-sectors_sound.false)
-    (sym c.channels_sound.ensures ∙ not-false _ c.if-not-channels_sound.false)
+returns c = record-passed _ c.if-a-gt-MOST_LINES.false (sym c.sectors_sound.ensures ∙ c.if-not-sectors_sound.false)
+    (sym c.channels_sound.ensures ∙ c.if-not-channels_sound.false)

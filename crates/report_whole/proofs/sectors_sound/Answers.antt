@@ -12,10 +12,10 @@ loop-i-init c = (omega arith, all_none _)
 
 pub returns-then-not-sound_tally : goal.returns-then-not-sound_tally
 unfolding sectors_sound
-returns-then-not-sound_tally c = sym (all_fails _ 12 c.loop-i.i (omega arith) (sym c.sound_tally.ensures ∙ not-true _ c.if-not-sound_tally.true))
+returns-then-not-sound_tally c = sym (all_fails _ 12 c.loop-i.i (omega arith) (sym c.sound_tally.ensures ∙ c.if-not-sound_tally.true))
 
 pub loop-i-preserved : goal.loop-i-preserved
-loop-i-preserved c = (omega arith, all_turn _ c.loop-i.i c.loop-i.invariant.1 (sym c.sound_tally.ensures ∙ not-false _ c.if-not-sound_tally.false))
+loop-i-preserved c = (omega arith, all_turn _ c.loop-i.i c.loop-i.invariant.1 (sym c.sound_tally.ensures ∙ c.if-not-sound_tally.false))
 
 pub returns : goal.returns
 unfolding sectors_sound

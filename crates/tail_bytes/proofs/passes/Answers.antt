@@ -23,6 +23,6 @@ pub returns : goal.returns
 returns c =
     let w = c.args.remembered in
     let fits : w * 2 ^ 1 % 2 ^ 64 ≡ w * 2 = mod-eq_of_lt {n = w * 2} {m = 2 ^ 64} (omega (arith, c.requires)) in
-    let one = ltb-true _ _ (sym c.far.ensures ∙ not-false _ c.if-not-far.false) in
+    let one = ltb-true _ _ (sym c.far.ensures ∙ c.if-not-far.false) in
     λ e. clear_counted c.args.setting w _ _ (lit< tt) refl refl refl refl refl refl refl refl refl one
     (ltb-true _ _ (sym (c.far-2.ensures ∙ ap (λ (n : ℕ). ltb c.args.setting (unlike n)) fits) ∙ e))

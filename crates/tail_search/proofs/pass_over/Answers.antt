@@ -29,7 +29,7 @@ pub loop-taken-preserved : goal.loop-taken-preserved
 loop-taken-preserved c =
     let at-loop = in-loop.before in
     passed_byte _ c.loop-taken.invariant (omega (arith, at-loop.before)) refl (c.shared_slice_known-in-loop-taken-1.given c.loop-taken.taken).fits c.loop-taken-test.true
-    (c.passes.ensures (not-false _ c.if-not-passes.false))
+    (c.passes.ensures (c.if-not-passes.false))
 
 pub returns : goal.returns
 returns c = c.loop-taken.invariant

@@ -25,9 +25,6 @@ returns-in-9-to-11 c =
     let n = c.args.sector in
     ap (λ (i : ℕ). row (309872 + (n - 9) * 6662) 6662 16 i 4582 2291 2) c.id_of-id.ensures ∙ lower_row n (omega arith) (omega arith)
 
-pub returns-in_default : goal.returns-in_default
-returns-in_default c = absurd (omega (arith, c.in_default-1.rest.1))
-
 pub returns-in_default-2 : goal.returns-in_default-2
 unfolding layout_of sectors
 returns-in_default-2 c =
