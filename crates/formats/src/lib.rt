@@ -2,6 +2,8 @@
 // as its named constants: the lengths of one line on the wire, and the start value of the check.
 //
 // The contracts cite `specs/Formats.antt`. No public function has a `requires`.
+#![tactic(auto)]
+
 ghost use Rattle.std.specs.Prelude.{◌≡◌};
 ghost use Rattle.formats.specs.Formats.{svissr, hirid, svissr_ones, format_refusal, check_start, FormatOk};
 
