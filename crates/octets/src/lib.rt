@@ -6,6 +6,8 @@
 //
 // All functions here are inner: each asks that the places it is given lie in the slices, and the calls above, which users
 // make, refuse instead.
+#![tactic(auto)]
+
 ghost use Rattle.std.specs.Prelude.{◌≡◌, ◌++◌, ◌+◌, ◌-◌, ◌*◌, ◌^◌, ◌≤◌, ◌<◌, length, get_or, take, drop, replicate};
 ghost use Rattle.bits.specs.Bits.{stretch, same, digits, in_base, fields_of};
 
