@@ -5,6 +5,8 @@
 // exclusive or is set, so it counts as well in how many places they are apart (`apart_digits`).
 //
 // All functions here are inner.
+#![tactic(auto)]
+
 ghost use Rattle.std.specs.Prelude.{◌≡◌, ◌+◌, ◌/◌, ◌^◌, ◌≤◌, ◌<◌};
 ghost use Rattle.std.specs.Int.Bits.{bit_and};
 ghost use Rattle.bits.specs.Bits.{digits, set_bits};
