@@ -1,6 +1,8 @@
 // Eight bytes of a slice as one number, and back, the first byte the lowest.
 //
 // The contracts cite `specs/LowFirst` of `bits`. All functions are inner: each asks that the places it is given lie in the slice.
+#![tactic(auto)]
+
 ghost use Rattle.std.specs.Prelude.{◌≡◌, ◌+◌, ◌%◌, ◌^◌, ◌≤◌, length};
 ghost use Rattle.bits.specs.LowFirst.{low_first, bytes_from, stored};
 
