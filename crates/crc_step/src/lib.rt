@@ -1,6 +1,8 @@
 // One step of the division by x^16 + x^12 + x^5 + 1 over two elements, also with a bit of the start value put on the bit.
 //
 // The contracts cite `specs/Remainder.antt`, the remainder as it is computed bit by bit. All functions here are inner.
+#![tactic(auto)]
+
 ghost use Rattle.std.specs.Prelude.{◌≡◌, ◌+◌, ◌*◌, ◌/◌, ◌%◌, ◌^◌, ◌<◌};
 ghost use Rattle.crc_step.specs.Remainder.{next};
 
