@@ -89,6 +89,7 @@ after_number (suc w) r =
 
 -- THE REGISTER AFTER w BITS, up to fourteen and at least one; with none a bit over the fifteen would stay
 pub key_register : (w r : ℕ) → 1 ≤ w → w ≤ 14 → register_after w r ≡ (r * 2 ^ w + key_of w r) % 2 ^ 15
+key_register zero r l h = absurd (omega (arith, l))
 key_register (suc w) r l h =
     let small : register_after (suc w) r < 2 ^ 15 = rw (after_more w r) (next_lt (register_after w r)) in
     sym (mod-eq_of_lt small)

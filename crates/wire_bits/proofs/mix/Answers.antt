@@ -6,7 +6,6 @@ use Rattle.wire_bits.proofs.mix.Goals as goal
 
 pub returns : goal.returns
 returns c =
-    let whole = at-bytes.before.before in
-    let from : c.args.from / 8 * 8 ≡ c.args.from = omega (arith, whole.before) in
-    let count : c.args.count / 8 * 8 ≡ c.args.count = omega (arith, whole) in
+    let from : c.args.from / 8 * 8 ≡ c.args.from = omega arith in
+    let count : c.args.count / 8 * 8 ≡ c.args.count = omega arith in
     (rw (from, count) at c.mix_bytes.ensures.put, rw count at c.mix_bytes.ensures.after)
