@@ -46,7 +46,7 @@ returns-then-place c =
 
 pub whole_bytes-span-requires : goal.whole_bytes-span-requires
 whole_bytes-span-requires c =
-    let at_plain = at-else.before.before.before.before in
+    let at_plain = c.before.before.before.before.before.before in
     let stored = fills-store c.loop-left-2.invariant.1 c.mix_bit-plain.result.bit c.mix_bit-plain.result.next.bits
     (plain_of _ _ _ _ _ c.mix_bit-plain.ensures.1) c.mix_bit-plain.ensures.0 (omega (arith, at_plain.before)) c.if-place-eq7.true c.if-place.false in
     stored.ok
@@ -57,7 +57,7 @@ loop-left-2-smaller-then-place-eq7 c =
 
 pub loop-left-2-preserved-then-place-eq7 : goal.loop-left-2-preserved-then-place-eq7
 loop-left-2-preserved-then-place-eq7 c =
-    let at_plain = at-else.before.before.before.before in
+    let at_plain = c.before.before.before.before.before.before.before.before.before in
     let stored = fills-store c.loop-left-2.invariant.1 c.mix_bit-plain.result.bit c.mix_bit-plain.result.next.bits
     (plain_of _ _ _ _ _ c.mix_bit-plain.ensures.1) c.mix_bit-plain.ensures.0 (omega (arith, at_plain.before)) c.if-place-eq7.true c.if-place.false in
     let span = c.whole_bytes-span.ensures in

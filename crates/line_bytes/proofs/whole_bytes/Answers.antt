@@ -16,7 +16,7 @@ copy_across-requires c =
 
 pub returns : goal.returns
 returns c =
-    let at_some = at_copy.before.before in
+    let at_some = c.before.before.before.before.before.before.before.before.before.before in
     let some : zero < c.whole-n.result = omega (arith, at_some) in
     span_mixed c.requires some c.whole-n.ensures
     (below_all 256 _ (λ i. (c.shared_slice_known-1.given i).fits)) (below_all 256 _ (λ i. (c.slice_known-2-1.given i).fits)) (below_all 256 _ (λ i. (c.slice_known-3-1.given i).fits))

@@ -47,7 +47,7 @@ put_whole-requires c = let k = known c.before.before.before.before in let f = re
 pub returns : goal.returns
 unfolding real_bytes
 returns c =
-    let passed = weighed.before in
+    let passed = c.before.before.before.before.before.before.before in
     let args = c.args in
     let s = args.negative in
     let n = args.n in

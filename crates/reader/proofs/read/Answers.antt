@@ -30,7 +30,7 @@ to_line-requires c = let k = known c.before.before.before.before in fill_in (fac
 
 pub returns-then-state : goal.returns-then-state
 returns-then-state c =
-    let at_1 = at_2.before in
+    let at_1 = c.before.before.before.before.before.before.before in
     let args = (start at_1.before).args in
     read-call args.format args.setting args.state args.piece.now args.line.now _ c.read_refusal-refused.ensures c.if-refused-ne0.false c.if-piece-eq0.false
     (call_as (c.to_line.ensures.at args.setting)
@@ -41,12 +41,12 @@ seek-requires c = let f = facts _ (known c.before.before.before).possible in (f.
 
 pub to_line-requires-in-Found : goal.to_line-requires-in-Found
 to_line-requires-in-Found c =
-    let at-seek = at-taken.before.before in
+    let at-seek = c.before.before.before.before.before in
     fill_found c.seek.ensures c.in-Found.is (omega arith) (omega arith) (known at-seek.before.before.before).long
 
 pub returns-in-Nothing : goal.returns-in-Nothing
 returns-in-Nothing c =
-    let at_1 = at_2.before in
+    let at_1 = c.before.before.before.before.before.before.before.before in
     let args = (start at_1.before).args in
     read-call args.format args.setting args.state args.piece.now args.line.now _ c.read_refusal-refused.ensures c.if-refused-ne0.false c.if-piece-eq0.false
     (call_as (sought_none args.line.now c.seek.ensures c.in-Nothing.is c.between.ensures)
@@ -54,7 +54,7 @@ returns-in-Nothing c =
 
 pub returns-in-Found : goal.returns-in-Found
 returns-in-Found c =
-    let at_1 = at_2.before in
+    let at_1 = c.before.before.before.before.before.before.before.before.before.before.before in
     let args = (start at_1.before).args in
     read-call args.format args.setting args.state args.piece.now args.line.now _ c.read_refusal-refused.ensures c.if-refused-ne0.false c.if-piece-eq0.false
     (call_as (c.to_line-in-Found.ensures.at args.setting)

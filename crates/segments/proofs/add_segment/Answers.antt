@@ -38,7 +38,7 @@ place-requires c =
 
 pub returns-in-Is : goal.returns-in-Is
 returns-in-Is c =
-    let found = placed.before.before.before in
+    let found = c.before.before.before.before.before.before in
     let a = c.args in
     added-told a.format a.assembly a.line.now a.number a.block.now (is_carried found) _ (is-segment found) _ _ c.place.ensures
 

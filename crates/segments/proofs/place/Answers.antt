@@ -51,5 +51,5 @@ with_mark-requires c = c.requires.small
 
 pub returns : goal.returns
 returns c =
-    let known = new.before.before.before in
+    let known = c.before.before.before.before.before.before.before.before.before.before in
     placed-new _ _ _ _ _ _ (refusal known.before.before) _ _ _ _ c.if-refused-ne0.false (sym c.is_marked.ensures ∙ c.if-is_marked.false) (from-now-on known) c.with_mark.ensures c.store.ensures c.block_of.ensures

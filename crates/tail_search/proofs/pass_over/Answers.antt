@@ -27,7 +27,7 @@ overflow_cast-search c = omega (arith, (c.shared_slice_known-in-loop-taken-1.giv
 
 pub loop-taken-preserved : goal.loop-taken-preserved
 loop-taken-preserved c =
-    let at-loop = in-loop.before in
+    let at-loop = c.before.before.before.before.before in
     passed_byte _ c.loop-taken.invariant (omega (arith, at-loop.before)) refl (c.shared_slice_known-in-loop-taken-1.given c.loop-taken.taken).fits c.loop-taken-test.true
     (c.passes.ensures (c.if-not-passes.false))
 

@@ -33,7 +33,7 @@ pass_over-passed-requires c =
 
 pub returns-then-at-piece : goal.returns-then-at-piece
 returns-then-at-piece c =
-    let after = at-passed.before in
+    let after = c.before.before.before in
     let done = way-passed c.loop-left.invariant c.pass_over-passed.result (omega (arith, after)) c.pass_over-passed.ensures in
     way_end done (omega (arith, after)) c.if-at-piece.true
 
@@ -58,7 +58,7 @@ seek-smaller-then-count-lt56 c =
 pub seek-preserved-then-count-lt56 : goal.seek-preserved-then-count-lt56
 seek-preserved-then-count-lt56 c =
     let at-known = c.before.before in
-    let after = at-passed.before in
+    let after = c.before.before.before.before.before in
     let done = way-passed c.loop-left.invariant c.pass_over-passed.result (omega (arith, after)) c.pass_over-passed.ensures in
     way-whole done _ refl (c.shared_slice_known-in-seek-1.given c.pass_over-passed.result.taken).fits (omega (arith, after)) (omega (arith, at-known.before)) (omega (arith, c.before))
 
@@ -69,7 +69,7 @@ seek-smaller c =
 pub seek-preserved : goal.seek-preserved
 seek-preserved c =
     let at-known = c.before.before in
-    let after = at-passed.before in
+    let after = c.before.before.before.before.before in
     let done = way-passed c.loop-left.invariant c.pass_over-passed.result (omega (arith, after)) c.pass_over-passed.ensures in
     way-byte done (omega (arith, after)) (omega (arith, at-known.before))
 

@@ -15,13 +15,13 @@ returns-then-x-y c =
 pub returns-then-y-x : goal.returns-then-y-x
 returns-then-y-x c =
     let dates = c.before.before.before in
-    let known = dates.before.before.before.before in
+    let known = c.before.before.before.before.before.before.before in
     date-after _ _ (first known) (second known) (rw (date-a dates, date-b dates) at c.if-y-x.true)
 
 pub returns : goal.returns
 unfolding count_number count_bytes stretch
 returns c =
-    let dates = level.before.before in
-    let known = dates.before.before.before.before in
+    let dates = c.before.before.before.before.before in
+    let known = c.before.before.before.before.before.before.before.before.before in
     let same : c.whole-x.result ≡ c.whole-y.result = omega arith in
     ap₂ ltb c.whole.ensures.0 c.whole-2.ensures.0 ∙ date-level _ _ (first known) (second known) (sym (date-a dates) ∙ same ∙ date-b dates)
