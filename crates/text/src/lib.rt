@@ -3,9 +3,17 @@
 //
 // A row has room for 512 bytes, and what does not fit is left out; the longest row of our programs has some 300. Of these
 // functions it is proved that they are safe and end. What they write is compared with the second decoder.
+#![tactic(auto)]
+
 ghost use Rattle.std.specs.Prelude.{◌≡◌, nat_abs};
 
-use libc::{STDERR_FILENO, STDOUT_FILENO};
+use itoa::Buffer;
+use std::io;
+use std::io::Print;
+
+mod failure;
+
+pub use failure::fail;
 
 // The bytes that a row has room for.
 const ROOM: usize = 512;
@@ -57,15 +65,15 @@ impl Row {
     // A whole number in decimal, with zeros in front up to the least number of digits, and a point before the last `places`
     // of them.
     fn digits(self, n: u64, least: usize, places: usize) -> Row {
-        let mut text = [0u8; 20];
-        let k = io::decimal(n, &mut text);
+        let mut buffer = Buffer::new();
+        let text = buffer.format(n).as_bytes();
         let mut row = self;
-        let mut left = larger(k, least);
+        let mut left = larger(text.len(), least);
         while 0 < left {
             if left == places {
                 row = row.byte(b'.');
             }
-            row = row.byte(digit(&text, k, left));
+            row = row.byte(digit(text, left));
             left -= 1;
         }
         row
@@ -105,32 +113,34 @@ impl Row {
 
     // The row and the end of its line to standard output, in one write. Where it cannot be written, standard error says so, and
     // the answer is false: the program is to end.
-    pub fn write(self) -> bool {
+    pub fn write(self, rt: &HostRuntime) -> bool {
         let row = self.byte(b'\n');
         let n = row.count;
         let bytes = row.bytes;
-        if send(STDOUT_FILENO, &bytes, n) {
-            return true;
+        match send(&rt.stdout(), &bytes, n) {
+            Ok(()) => true,
+            Err(error) => {
+                fail(rt, b"standard output", &error);
+                false
+            }
         }
-        os::fail(b"standard output");
-        false
     }
 
     // The same to standard error.
-    pub fn tell(self) {
+    pub fn tell(self, rt: &HostRuntime) {
         let row = self.byte(b'\n');
         let n = row.count;
         let bytes = row.bytes;
-        send(STDERR_FILENO, &bytes, n);
+        let _ = send(&rt.stderr(), &bytes, n);
     }
 }
 
-// The first n bytes to a file; false where they cannot be written.
-fn send(fd: i32, bytes: &[u8], n: usize) -> bool {
+// The first n bytes to a stream.
+fn send(to: &impl Print, bytes: &[u8], n: usize) -> io::Result<()> {
     if bytes.len() < n {
-        return false;
+        return Ok(());
     }
-    io::write_all(fd, &bytes[..n])
+    to.write_all(&bytes[..n])
 }
 
 // How far a number is from 0.
@@ -144,17 +154,13 @@ pub fn magnitude(n: i32) -> u64
     n as u64
 }
 
-// The digit of the first k in text that has `left` digits from it on; a zero in front of them.
-fn digit(text: &[u8; 20], k: usize, left: usize) -> u8 {
+// The digit in text that has `left` digits from it on; a zero in front of them.
+fn digit(text: &[u8], left: usize) -> u8 {
     if left == 0 {
         return b'0';
     }
-    if k < left {
+    if text.len() < left {
         return b'0';
     }
-    let i = k - left;
-    if 20 <= i {
-        return b'0';
-    }
-    text[i]
+    text[text.len() - left]
 }
