@@ -3,6 +3,8 @@
 // from the operating system.
 //
 // The contracts cite `specs/Words.antt`, which has the definitions of all three. No function has a `requires`.
+#![tactic(auto)]
+
 ghost use Rattle.std.specs.Prelude.{◌≡◌, ◌≤◌};
 ghost use Rattle.words.specs.Words.{nothing_asked, with_options, with_names, awaiting, unserved as Words·unserved};
 
