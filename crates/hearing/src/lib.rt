@@ -2,6 +2,8 @@
 //
 // The contracts cite `words/specs/Words.antt`. That the words come in any order is proved in `words/proofs/Order.antt`. No function
 // has a `requires`.
+#![tactic(auto)]
+
 ghost use Rattle.std.specs.Prelude.{◌≡◌};
 ghost use Rattle.words.specs.Words.{named as Words·named, formatted as Words·formatted, heard as Words·heard, closed as Words·closed};
 

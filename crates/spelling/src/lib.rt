@@ -1,6 +1,8 @@
 // What a word of a command line is, by its bytes: which word, and which setting.
 //
 // The contracts cite `words/specs/Words.antt`. No function has a `requires`.
+#![tactic(auto)]
+
 ghost use Rattle.std.specs.Prelude.{◌≡◌};
 ghost use Rattle.bits.specs.Bits.{same};
 ghost use Rattle.words.specs.Words.{is_option, word_of, setting_of};
