@@ -73,8 +73,7 @@ fn kept(a: Assembly) -> AssemblyRecord
 }
 
 // An assembly that has no segment yet: 0 in every field.
-#[unsafe(no_mangle)]
-pub extern "C" fn hansobrik_fresh_assembly() -> AssemblyRecord
+pub fn hansobrik_fresh_assembly() -> AssemblyRecord
     ensures { result ≡ record_of fresh_assembly }
 {
     kept(blocks::assembly::fresh_assembly())
@@ -101,8 +100,7 @@ fn add_given(was: AssemblyRecord, a: Added) -> AddAnswer
 }
 
 // The segment of a block that a line carries, added; refused with 1, 12, 4, 2, 5, 6, 7, 14, 8.
-#[unsafe(no_mangle)]
-pub extern "C" fn hansobrik_add_segment(
+pub fn hansobrik_add_segment(
     format: u8,
     assembly: AssemblyRecord,
     line: &[u8],
@@ -134,8 +132,7 @@ fn revision_given(a: Revised) -> RevisionAnswer
 }
 
 // The revision of a finished MANAM or calibration block; refused with 1, 12, 4, 2, 9.
-#[unsafe(no_mangle)]
-pub extern "C" fn hansobrik_revision(
+pub fn hansobrik_revision(
     format: u8,
     assembly: AssemblyRecord,
     number: u8,

@@ -167,8 +167,7 @@ fn desk_left(was: LineDesk, d: Desk, i: usize) -> LineDesk
 }
 
 // An empty desk of so many slots; refused with 19.
-#[unsafe(no_mangle)]
-pub extern "C" fn hansobrik_fresh_desk(count: u32) -> DeskAnswer
+pub fn hansobrik_fresh_desk(count: u32) -> DeskAnswer
     ensures { result ≡ fresh_of count }
 {
     let a = desk::fresh(count as usize);
@@ -190,8 +189,7 @@ pub extern "C" fn hansobrik_fresh_desk(count: u32) -> DeskAnswer
 }
 
 // The feeder takes the lowest free slot and the next serial number; refused with 19, 12, 2, 18, 16.
-#[unsafe(no_mangle)]
-pub extern "C" fn hansobrik_take(desk: LineDesk, area: usize) -> TakenAnswer
+pub fn hansobrik_take(desk: LineDesk, area: usize) -> TakenAnswer
     ensures { result ≡ take_of desk area }
 {
     let a = desk::take(desk_handed(desk), area);
@@ -214,13 +212,7 @@ pub extern "C" fn hansobrik_take(desk: LineDesk, area: usize) -> TakenAnswer
 }
 
 // The feeder publishes a complete line, which preview and capture hold from then on; refused with 19, 12, 2, 17.
-#[unsafe(no_mangle)]
-pub extern "C" fn hansobrik_publish(
-    desk: LineDesk,
-    area: usize,
-    slot: usize,
-    serial: u32,
-) -> DeskAnswer
+pub fn hansobrik_publish(desk: LineDesk, area: usize, slot: usize, serial: u32) -> DeskAnswer
     ensures { result ≡ publish_of desk area slot serial }
 {
     let a = desk::publish(desk_handed(desk), area, slot, serial);
@@ -239,8 +231,7 @@ pub extern "C" fn hansobrik_publish(
 }
 
 // A consumer, 1 preview and 2 capture, releases its own hold; refused with 19, 12, 2, 17.
-#[unsafe(no_mangle)]
-pub extern "C" fn hansobrik_release(
+pub fn hansobrik_release(
     desk: LineDesk,
     area: usize,
     consumer: u8,
@@ -265,8 +256,7 @@ pub extern "C" fn hansobrik_release(
 }
 
 // The part of the area that a holder may read; refused with 19, 12, 2, 17. Nothing changes.
-#[unsafe(no_mangle)]
-pub extern "C" fn hansobrik_seen(
+pub fn hansobrik_seen(
     desk: LineDesk,
     area: usize,
     consumer: u8,

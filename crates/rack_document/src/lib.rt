@@ -119,8 +119,7 @@ fn scan_given(a: Scan) -> NameAnswer
 }
 
 // The scan mode; refused with 1, 2, 5, 6.
-#[unsafe(no_mangle)]
-pub extern "C" fn hansobrik_scan_mode(format: u8, line: &[u8]) -> NameAnswer
+pub fn hansobrik_scan_mode(format: u8, line: &[u8]) -> NameAnswer
     ensures { result ≡ scan_given (scan_mode_answer format line.now) }
 {
     scan_given(document::modes::scan_mode(format, line))
@@ -141,8 +140,7 @@ fn scanner_given(a: Scanner) -> NameAnswer
 }
 
 // Scanner select; refused with 1, 2, 5, 6.
-#[unsafe(no_mangle)]
-pub extern "C" fn hansobrik_scanner_select(format: u8, line: &[u8]) -> NameAnswer
+pub fn hansobrik_scanner_select(format: u8, line: &[u8]) -> NameAnswer
     ensures { result ≡ scanner_given (scanner_select_answer format line.now) }
 {
     scanner_given(document::modes::scanner_select(format, line))
@@ -171,8 +169,7 @@ fn lines_given(a: Numbered) -> LinesAnswer
 }
 
 // Set line, reset line, scan count and line position; refused with 1, 2, 5, 6, 7.
-#[unsafe(no_mangle)]
-pub extern "C" fn hansobrik_line_numbers(format: u8, line: &[u8]) -> LinesAnswer
+pub fn hansobrik_line_numbers(format: u8, line: &[u8]) -> LinesAnswer
     ensures { result ≡ lines_given (line_numbers_answer format line.now) }
 {
     lines_given(document_stamps::lines::line_numbers(format, line))
@@ -207,8 +204,7 @@ fn date_given(a: Dated) -> DateAnswer
 }
 
 // The date; refused with 1, 2, 5, 6, 7.
-#[unsafe(no_mangle)]
-pub extern "C" fn hansobrik_date(format: u8, line: &[u8]) -> DateAnswer
+pub fn hansobrik_date(format: u8, line: &[u8]) -> DateAnswer
     ensures { result ≡ date_given (date_answer format line.now) }
 {
     date_given(document_stamps::dates::date(format, line))
@@ -233,57 +229,35 @@ fn segment_given(a: SubCommutation) -> SegmentAnswer
 }
 
 // Segment and repeat of a line; refused with 1, 2, 5, 6, 7.
-#[unsafe(no_mangle)]
-pub extern "C" fn hansobrik_sub_commutation(format: u8, line: &[u8]) -> SegmentAnswer
+pub fn hansobrik_sub_commutation(format: u8, line: &[u8]) -> SegmentAnswer
     ensures { result ≡ segment_given (sub_commutation_answer format line.now) }
 {
     segment_given(document::segments::sub_commutation(format, line))
 }
 
 // I*n at a place, a byte of the sector from 1; refused with 1, 10, 2, 5, 6.
-#[unsafe(no_mangle)]
-pub extern "C" fn hansobrik_integer_field(
-    format: u8,
-    line: &[u8],
-    place: usize,
-    n: usize,
-) -> IntegerAnswer
+pub fn hansobrik_integer_field(format: u8, line: &[u8], place: usize, n: usize) -> IntegerAnswer
     ensures { result ≡ integer_given (integer_field_answer format line.now place n) }
 {
     integer_given(document_fields::integer_field(format, line, place, n))
 }
 
 // BCD*n at a place; refused with 1, 10, 2, 5, 6, 7.
-#[unsafe(no_mangle)]
-pub extern "C" fn hansobrik_bcd_field(format: u8, line: &[u8], place: usize, n: usize) -> BcdAnswer
+pub fn hansobrik_bcd_field(format: u8, line: &[u8], place: usize, n: usize) -> BcdAnswer
     ensures { result ≡ bcd_given (bcd_field_answer format line.now place n) }
 {
     bcd_given(document_fields::bcd_field(format, line, place, n))
 }
 
 // R*n.m at a place; refused with 1, 10, 2, 5, 6.
-#[unsafe(no_mangle)]
-pub extern "C" fn hansobrik_real_field(
-    format: u8,
-    line: &[u8],
-    place: usize,
-    n: usize,
-    m: u8,
-) -> RealAnswer
+pub fn hansobrik_real_field(format: u8, line: &[u8], place: usize, n: usize, m: u8) -> RealAnswer
     ensures { result ≡ real_given (real_field_answer format line.now place n m) }
 {
     real_given(document_fields::real_field(format, line, place, n, m))
 }
 
 // R*n.m at a place in f64; refused with 1, 10, 2, 5, 6.
-#[unsafe(no_mangle)]
-pub extern "C" fn hansobrik_f64_field(
-    format: u8,
-    line: &[u8],
-    place: usize,
-    n: usize,
-    m: u8,
-) -> FloatAnswer
+pub fn hansobrik_f64_field(format: u8, line: &[u8], place: usize, n: usize, m: u8) -> FloatAnswer
     ensures { result ≡ float_given (f64_field_answer format line.now place n m) }
 {
     float_given(document_fields::f64_field(format, line, place, n, m))

@@ -85,8 +85,7 @@ fn grid_given(a: Mapped) -> GridAnswer
 }
 
 // A point of the mapping grid; refused with 1, 12, 10, 2, 9.
-#[unsafe(no_mangle)]
-pub extern "C" fn hansobrik_mapping(
+pub fn hansobrik_mapping(
     format: u8,
     assembly: AssemblyRecord,
     block: &[u8],
@@ -139,8 +138,7 @@ fn level_f64_given(a: LevelF64) -> LevelFloatAnswer
 }
 
 // The albedo of a level of VIS 1 to 4; refused with 1, 12, 4, 10, 2, 9.
-#[unsafe(no_mangle)]
-pub extern "C" fn hansobrik_albedo(
+pub fn hansobrik_albedo(
     format: u8,
     assembly: AssemblyRecord,
     block: &[u8],
@@ -153,8 +151,7 @@ pub extern "C" fn hansobrik_albedo(
 }
 
 // The same in f64.
-#[unsafe(no_mangle)]
-pub extern "C" fn hansobrik_albedo_f64(
+pub fn hansobrik_albedo_f64(
     format: u8,
     assembly: AssemblyRecord,
     block: &[u8],
@@ -167,8 +164,7 @@ pub extern "C" fn hansobrik_albedo_f64(
 }
 
 // The temperature of a level of IR 1 to 4; refused with 1, 12, 4, 10, 2, 9.
-#[unsafe(no_mangle)]
-pub extern "C" fn hansobrik_temperature(
+pub fn hansobrik_temperature(
     format: u8,
     assembly: AssemblyRecord,
     block: &[u8],
@@ -181,8 +177,7 @@ pub extern "C" fn hansobrik_temperature(
 }
 
 // The same in f64.
-#[unsafe(no_mangle)]
-pub extern "C" fn hansobrik_temperature_f64(
+pub fn hansobrik_temperature_f64(
     format: u8,
     assembly: AssemblyRecord,
     block: &[u8],
@@ -223,12 +218,7 @@ fn orbit_given(a: Orbital) -> OrbitAnswer
 }
 
 // The orbital elements; refused with 1, 12, 2, 9.
-#[unsafe(no_mangle)]
-pub extern "C" fn hansobrik_elements(
-    format: u8,
-    assembly: AssemblyRecord,
-    block: &[u8],
-) -> OrbitAnswer
+pub fn hansobrik_elements(format: u8, assembly: AssemblyRecord, block: &[u8]) -> OrbitAnswer
     ensures { result ≡ orbit_given (elements_answer format (assembly_of assembly).marks block.now) }
 {
     orbit_given(entries::orbit::elements(format, handed(assembly), block))

@@ -42,8 +42,7 @@ pub struct StepAnswer {
 }
 
 // The version of the library as one number, so that a caller sees whether its declarations are of the same one.
-#[unsafe(no_mangle)]
-pub extern "C" fn hansobrik_version() -> u32
+pub fn hansobrik_version() -> u32
     ensures { result ≡ version }
 {
     800
@@ -76,8 +75,7 @@ fn format_given(a: formats::FormatAnswer) -> FormatAnswer
 }
 
 // The lengths of a format, and the start value of its check; refused with 1.
-#[unsafe(no_mangle)]
-pub extern "C" fn hansobrik_format(format: u8) -> FormatAnswer
+pub fn hansobrik_format(format: u8) -> FormatAnswer
     ensures { result ≡ format_given (format_of format) }
 {
     format_given(Format::of(format))
@@ -102,8 +100,7 @@ fn step_given(a: StepBit, register: u16) -> StepAnswer
 }
 
 // The step of a register by value. Refused with 12 for a register over fifteen bits, which comes back as it was.
-#[unsafe(no_mangle)]
-pub extern "C" fn hansobrik_stepped(register: u16) -> StepAnswer
+pub fn hansobrik_stepped(register: u16) -> StepAnswer
     ensures { result ≡ step_given (step_answer register) (register_left register) }
 {
     let s = scramble::stepped(Register { bits: register });
@@ -114,8 +111,7 @@ pub extern "C" fn hansobrik_stepped(register: u16) -> StepAnswer
 
 // The step of a register that the caller lends: it changes in place. Refused with 12 for a register over fifteen bits,
 // which stays as it was. The answer's `register` is the lent one after the call.
-#[unsafe(no_mangle)]
-pub extern "C" fn hansobrik_step(register: &mut u16) -> StepAnswer
+pub fn hansobrik_step(register: &mut u16) -> StepAnswer
     ensures { (result ≡ step_given (step_answer register.old) (register_left register.old)) × (register.new ≡ register_left register.old) }
 {
     let mut own = Register { bits: *register };
@@ -141,8 +137,7 @@ fn sync_given(a: SyncPut) -> CountAnswer
 }
 
 // SYNC of a format at the front of out, and how many bytes it takes; refused with 1, 3.
-#[unsafe(no_mangle)]
-pub extern "C" fn hansobrik_put_sync(format: u8, out: &mut [u8]) -> CountAnswer
+pub fn hansobrik_put_sync(format: u8, out: &mut [u8]) -> CountAnswer
     ensures { (result ≡ sync_given (put_sync_answer format out.old)) × (out.new ≡ put_sync_left format out.old) }
 {
     sync_given(sync::put_sync(format, out))

@@ -130,32 +130,28 @@ pub fn float_given(a: Float) -> FloatAnswer
 }
 
 // I*n; refused with 10, 2.
-#[unsafe(no_mangle)]
-pub extern "C" fn hansobrik_read_integer(bytes: &[u8], n: usize) -> IntegerAnswer
+pub fn hansobrik_read_integer(bytes: &[u8], n: usize) -> IntegerAnswer
     ensures { result ≡ integer_given (read_integer_answer n bytes.now) }
 {
     integer_given(numbers::read_integer(bytes, n))
 }
 
 // BCD*n; refused with 10, 2, 7.
-#[unsafe(no_mangle)]
-pub extern "C" fn hansobrik_read_bcd(bytes: &[u8], n: usize) -> BcdAnswer
+pub fn hansobrik_read_bcd(bytes: &[u8], n: usize) -> BcdAnswer
     ensures { result ≡ bcd_given (read_bcd_answer n bytes.now) }
 {
     bcd_given(numbers::read_bcd(bytes, n))
 }
 
 // R*n.m; refused with 10, 2.
-#[unsafe(no_mangle)]
-pub extern "C" fn hansobrik_read_real(bytes: &[u8], n: usize, m: u8) -> RealAnswer
+pub fn hansobrik_read_real(bytes: &[u8], n: usize, m: u8) -> RealAnswer
     ensures { result ≡ real_given (read_real_answer n m bytes.now) }
 {
     real_given(numbers::read_real(bytes, n, m))
 }
 
 // R*n.m in f64; refused with 10, 2.
-#[unsafe(no_mangle)]
-pub extern "C" fn hansobrik_read_f64(bytes: &[u8], n: usize, m: u8) -> FloatAnswer
+pub fn hansobrik_read_f64(bytes: &[u8], n: usize, m: u8) -> FloatAnswer
     ensures { result ≡ float_given (read_f64_answer n m bytes.now) }
 {
     float_given(floats::read_f64(bytes, n, m))
@@ -172,14 +168,7 @@ fn put_number(a: Put) -> u8
 }
 
 // The bytes of R*n.m: 0, or refused with 10, 11, 3.
-#[unsafe(no_mangle)]
-pub extern "C" fn hansobrik_put_real(
-    negative: bool,
-    magnitude: u64,
-    n: usize,
-    m: u8,
-    out: &mut [u8],
-) -> u8
+pub fn hansobrik_put_real(negative: bool, magnitude: u64, n: usize, m: u8, out: &mut [u8]) -> u8
     ensures { (result ≡ put_number (put_real_answer magnitude n m (length out.old))) × (out.new ≡ put_real_left negative magnitude n m out.old) }
 {
     put_number(number_writer::put_real(negative, magnitude, n, m, out))

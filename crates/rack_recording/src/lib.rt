@@ -98,8 +98,7 @@ fn refused_read(n: u8, s: ReaderState) -> ReadAnswer
 }
 
 // The record of a reader before a recording's first bit: every field 0.
-#[unsafe(no_mangle)]
-pub extern "C" fn hansobrik_fresh() -> ReaderState
+pub fn hansobrik_fresh() -> ReaderState
     ensures { result ≡ kept_of fresh_state }
 {
     kept(reader_record::fresh())
@@ -137,8 +136,7 @@ fn impossible_flag(format: u8, setting: u8) -> u8
 }
 
 // Reads on from a record, at a setting, until a line is complete or the piece is used up; refused with 1, 13, 12, 2.
-#[unsafe(no_mangle)]
-pub extern "C" fn hansobrik_read(
+pub fn hansobrik_read(
     format: u8,
     setting: u8,
     state: ReaderState,
@@ -173,8 +171,7 @@ fn written_given(a: Written) -> CountAnswer
 }
 
 // One plain line on the wire at the front of out, and how many bytes it takes; refused with 1, 2, 3.
-#[unsafe(no_mangle)]
-pub extern "C" fn hansobrik_write_line(format: u8, line: &[u8], out: &mut [u8]) -> CountAnswer
+pub fn hansobrik_write_line(format: u8, line: &[u8], out: &mut [u8]) -> CountAnswer
     ensures { (result ≡ written_given (write_line_answer format line.now out.old)) × (out.new ≡ write_line_left format line.now out.old) }
 {
     written_given(writer::write_line(format, line, out))

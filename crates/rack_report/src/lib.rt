@@ -222,8 +222,7 @@ fn answer_given(was: PassReport, a: Reported) -> ReportAnswer
 }
 
 // The report of no lines: every field 0.
-#[unsafe(no_mangle)]
-pub extern "C" fn hansobrik_empty_report() -> PassReport
+pub fn hansobrik_empty_report() -> PassReport
     ensures { result ≡ report_given empty_report }
 {
     report_given(report::empty())
@@ -237,8 +236,7 @@ fn impossible_mark(format: u8) -> u8
 }
 
 // The report with one line more; refused with 1, 12, 15, 2.
-#[unsafe(no_mangle)]
-pub extern "C" fn hansobrik_with_line(format: u8, report: PassReport, line: &[u8]) -> ReportAnswer
+pub fn hansobrik_with_line(format: u8, report: PassReport, line: &[u8]) -> ReportAnswer
     ensures { result ≡ with_line_of format report line.now }
 {
     if !marked(report) {
@@ -251,8 +249,7 @@ pub extern "C" fn hansobrik_with_line(format: u8, report: PassReport, line: &[u8
 }
 
 // The report of two passes, one after the other; refused with 12, 15, and then the first comes back.
-#[unsafe(no_mangle)]
-pub extern "C" fn hansobrik_together(first: PassReport, second: PassReport) -> ReportAnswer
+pub fn hansobrik_together(first: PassReport, second: PassReport) -> ReportAnswer
     ensures { result ≡ together_of first second }
 {
     if !marked(first) {

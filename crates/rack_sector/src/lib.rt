@@ -31,8 +31,7 @@ pub struct StripAnswer {
 }
 
 // Whether a sector is accepted: 0, or refused with 1, 4, 2, 5, 6.
-#[unsafe(no_mangle)]
-pub extern "C" fn hansobrik_accepted(format: u8, line: &[u8], sector: u8) -> u8
+pub fn hansobrik_accepted(format: u8, line: &[u8], sector: u8) -> u8
     ensures { result ≡ accepted_answer format line.now sector }
 {
     sectors::check::accepted(format, line, sector)
@@ -58,8 +57,7 @@ fn twelve_given(a: Twelve) -> TwelveAnswer
 }
 
 // What `hansobrik_accepted` says of each of the twelve sectors; refused with 1, 2.
-#[unsafe(no_mangle)]
-pub extern "C" fn hansobrik_answers(format: u8, line: &[u8]) -> TwelveAnswer
+pub fn hansobrik_answers(format: u8, line: &[u8]) -> TwelveAnswer
     ensures { result ≡ twelve_given (answers_answer format line.now) }
 {
     twelve_given(sectors::check::answers(format, line))
@@ -82,40 +80,35 @@ fn filler_given(a: Counted) -> CountAnswer
 }
 
 // How many filler bits of a sector are set; refused with 1, 4, 2.
-#[unsafe(no_mangle)]
-pub extern "C" fn hansobrik_filler(format: u8, line: &[u8], sector: u8) -> CountAnswer
+pub fn hansobrik_filler(format: u8, line: &[u8], sector: u8) -> CountAnswer
     ensures { result ≡ filler_given (filler_answer format line.now sector) }
 {
     filler_given(sectors::check::filler(format, line, sector))
 }
 
 // The data of a sector as bytes; refused with 1, 4, 2, 3, 5, 6.
-#[unsafe(no_mangle)]
-pub extern "C" fn hansobrik_data(format: u8, line: &[u8], sector: u8, out: &mut [u8]) -> u8
+pub fn hansobrik_data(format: u8, line: &[u8], sector: u8, out: &mut [u8]) -> u8
     ensures { (result ≡ data_answer format line.now sector (length out.old)) × (out.new ≡ data_left format line.now sector out.old) }
 {
     pixels::values::data(format, line, sector, out)
 }
 
 // The pixels of a sector from 2 to 11; refused with 1, 4, 2, 3, 5, 6.
-#[unsafe(no_mangle)]
-pub extern "C" fn hansobrik_pixels(format: u8, line: &[u8], sector: u8, out: &mut [u8]) -> u8
+pub fn hansobrik_pixels(format: u8, line: &[u8], sector: u8, out: &mut [u8]) -> u8
     ensures { (result ≡ pixels_answer 2 11 format line.now sector (length out.old)) × (out.new ≡ pixels_left 2 11 format line.now sector out.old) }
 {
     pixels::values::pixels(format, line, sector, out)
 }
 
 // The pixels of IR4, sector 12; refused with 1, 4, 2, 3, 5, 6.
-#[unsafe(no_mangle)]
-pub extern "C" fn hansobrik_pixels_wide(format: u8, line: &[u8], sector: u8, out: &mut [u16]) -> u8
+pub fn hansobrik_pixels_wide(format: u8, line: &[u8], sector: u8, out: &mut [u16]) -> u8
     ensures { (result ≡ pixels_answer 12 12 format line.now sector (length out.old)) × (out.new ≡ pixels_left 12 12 format line.now sector out.old) }
 {
     pixels::values::pixels_wide(format, line, sector, out)
 }
 
 // The ten-bit pixels of IR1, IR2 or IR3; refused with 1, 4, 2, 3, the upper sector's 5 and 6, the lower one's.
-#[unsafe(no_mangle)]
-pub extern "C" fn hansobrik_joined(format: u8, line: &[u8], channel: u8, out: &mut [u16]) -> u8
+pub fn hansobrik_joined(format: u8, line: &[u8], channel: u8, out: &mut [u16]) -> u8
     ensures { (result ≡ joined_answer format line.now channel (length out.old)) × (out.new ≡ joined_left format line.now channel out.old) }
 {
     channels::join::joined(format, line, channel, out)
@@ -138,37 +131,28 @@ fn strip_given(a: Stripped) -> StripAnswer
 }
 
 // The four visible lines in one strip; refused with 1, 2, 3.
-#[unsafe(no_mangle)]
-pub extern "C" fn hansobrik_strip(format: u8, line: &[u8], strip: &mut [u8]) -> StripAnswer
+pub fn hansobrik_strip(format: u8, line: &[u8], strip: &mut [u8]) -> StripAnswer
     ensures { (result ≡ strip_given (strip_answer format line.now strip.old)) × (strip.new ≡ strip_left format line.now strip.old) }
 {
     strip_given(visible::strip::strip(format, line, strip))
 }
 
 // Data into a sector, with ID, check word and filler; refused with 1, 4, 2.
-#[unsafe(no_mangle)]
-pub extern "C" fn hansobrik_put_data(format: u8, line: &mut [u8], sector: u8, bytes: &[u8]) -> u8
+pub fn hansobrik_put_data(format: u8, line: &mut [u8], sector: u8, bytes: &[u8]) -> u8
     ensures { (result ≡ put_data_answer format (length line.old) sector (length bytes.now)) × (bits_of line.new ≡ put_data_left format line.old sector bytes.now) }
 {
     sector_writer::write::put_data(format, line, sector, bytes)
 }
 
 // Pixels into a sector from 2 to 11; refused with 1, 4, 10, 2.
-#[unsafe(no_mangle)]
-pub extern "C" fn hansobrik_put_pixels(format: u8, line: &mut [u8], sector: u8, pixels: &[u8]) -> u8
+pub fn hansobrik_put_pixels(format: u8, line: &mut [u8], sector: u8, pixels: &[u8]) -> u8
     ensures { (result ≡ put_pixels_answer 2 11 format (length line.old) sector pixels.now) × (bits_of line.new ≡ put_pixels_left 2 11 format line.old sector pixels.now) }
 {
     sector_writer::write::put_pixels(format, line, sector, pixels)
 }
 
 // Pixels into IR4, sector 12; refused with 1, 4, 10, 2.
-#[unsafe(no_mangle)]
-pub extern "C" fn hansobrik_put_pixels_wide(
-    format: u8,
-    line: &mut [u8],
-    sector: u8,
-    pixels: &[u16],
-) -> u8
+pub fn hansobrik_put_pixels_wide(format: u8, line: &mut [u8], sector: u8, pixels: &[u16]) -> u8
     ensures { (result ≡ put_pixels_answer 12 12 format (length line.old) sector pixels.now) × (bits_of line.new ≡ put_pixels_left 12 12 format line.old sector pixels.now) }
 {
     sector_writer::write::put_pixels_wide(format, line, sector, pixels)
