@@ -17,7 +17,7 @@ use Rattle.calibration.proofs.Tables.{calibration_size}
 use Rattle.calibration.proofs.level_real.Tie as tie
 use Rattle.calibration.proofs.level_real.Goals as goal
 
-refusal : (c : tie.After-entry_refusal-refused) → let a = c.args in
+refusal : (c : tie.After-entry_refusal) → let a = c.args in
     c.entry_refusal-refused.result ≡ level_refusal a.t a.format a.marks a.channel a.level (length a.block.now)
 unfolding level_refusal
 refusal c =
@@ -25,7 +25,7 @@ refusal c =
     c.entry_refusal-refused.ensures
     ∙ ap₂ (λ (n r : ℕ). entry_refusal a.format a.marks calibration2 n r (length a.block.now)) c.outside-served.ensures c.outside-range.ensures
 
-knows : (c : tie.Else-refused-ne0) → let a = c.args in
+knows : (c : tie.Else1) → let a = c.args in
     Given a.marks calibration2 (outside_of 1 4 a.channel 4) (outside_of 0 (a.t.levels - 1) a.level 10) (length a.block.now)
 unfolding level_refusal
 knows c = given c.args.format _ _ _ _ _ (sym (refusal c.before) ∙ c.if-refused-ne0.false)

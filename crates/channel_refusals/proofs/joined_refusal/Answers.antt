@@ -17,11 +17,11 @@ use Rattle.channel_refusals.specs.Refusing.{joined_answer}
 use Rattle.channel_refusals.proofs.joined_refusal.Tie as tie
 use Rattle.channel_refusals.proofs.joined_refusal.Goals as goal
 
-admit : (c : tie.Else-refused-ne0) → Admitted 1 3 c.args.channel (length c.args.line.now)
+admit : (c : tie.Else1) → Admitted 1 3 c.args.channel (length c.args.line.now)
 admit c = admitted _ _ _ _ _ (sym c.line_refusal-refused.ensures ∙ c.if-refused-ne0.false)
 
 -- what refuses the upper sector
-read : (c : tie.After-values_refusal-unread) → let a = c.args in
+read : (c : tie.After-values_refusal) → let a = c.args in
     c.values_refusal-unread.result ≡ values_refusal (check_start a.format) (upper_of a.channel) (bits_of a.line.now) a.given (upper_of a.channel).count
 read c =
     let a = c.args in

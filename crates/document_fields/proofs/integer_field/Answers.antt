@@ -12,13 +12,13 @@ use Rattle.refusals.proofs.Says.{says_some}
 use Rattle.document_fields.proofs.integer_field.Tie as tie
 use Rattle.document_fields.proofs.integer_field.Goals as goal
 
-tested : (c : tie.After-field_refusal-refused)
+tested : (c : tie.After-field_refusal)
     → let a = c.args in c.field_refusal-refused.result ≡ field_refusal (outside_of 1 4 a.n 10) a.format a.line.now a.place a.n
 tested c =
     let a = c.args in
     c.field_refusal-refused.ensures ∙ ap (λ (k : ℕ). field_refusal k a.format a.line.now a.place a.n) c.outside-form.ensures
 
-known : (c : tie.Else-refused-ne0) → let a = c.args in Served (outside_of 1 4 a.n 10) a.format a.line.now a.place a.n
+known : (c : tie.Else1) → let a = c.args in Served (outside_of 1 4 a.n 10) a.format a.line.now a.place a.n
 known c = served _ _ _ _ _ (sym (tested c.before) ∙ c.if-refused-ne0.false)
 
 pub returns-then-refused-ne0 : goal.returns-then-refused-ne0

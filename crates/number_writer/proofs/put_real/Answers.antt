@@ -20,7 +20,7 @@ use Rattle.number_writer.proofs.Settled.{put_real_told}
 use Rattle.number_writer.proofs.put_real.Tie as tie
 use Rattle.number_writer.proofs.put_real.Goals as goal
 
-known : (c : tie.Else-refused-ne0)
+known : (c : tie.Else1)
     → let a = c.args in (no_real a.n a.m ≡ false) × (a.magnitude < 2 ^ magnitude_bits a.n) × (a.n ≤ length a.out.now)
 known c = put_passed _ _ _ _ (sym c.put_refusal-refused.ensures ∙ c.if-refused-ne0.false)
 

@@ -14,7 +14,7 @@ use Rattle.numbers.proofs.Ranges.{formed, real_form}
 use Rattle.number_writer.proofs.put_refusal.Tie as tie
 use Rattle.number_writer.proofs.put_refusal.Goals as goal
 
-in_range : (c : tie.Else-form-ne0) → no_real c.args.n c.args.m ≡ false
+in_range : (c : tie.Else1) → no_real c.args.n c.args.m ≡ false
 in_range c = formed _ _ (sym c.form_refusal-form.ensures ∙ c.if-form-ne0.false)
 
 pub returns-then-form-ne0 : goal.returns-then-form-ne0

@@ -10,7 +10,7 @@ use Rattle.numbers.proofs.form_refusal.Tie as tie
 use Rattle.numbers.proofs.form_refusal.Goals as goal
 
 -- where the two tests on n have met
-one : (c : tie.Joined-else-n-ne4) → (not (eqb c.args.n 4) && not (eqb c.args.n 6)) ≡ false
+one : (c : tie.Joined1) → (not (eqb c.args.n 4) && not (eqb c.args.n 6)) ≡ false
 one c = ⊎_elim (λ w. rw (ne_eqb _ _ w.0.taken) w.1.left) (λ w. rw (eq-eqb _ _ w.left) refl) c.else-n-ne4.branch
 
 pub returns-then-n-ne6 : goal.returns-then-n-ne6

@@ -12,7 +12,7 @@ use Rattle.numbers.proofs.Settled.{decimals}
 use Rattle.numbers.proofs.read_bcd.Tie as tie
 use Rattle.numbers.proofs.read_bcd.Goals as goal
 
-known : (c : tie.Else-refused-ne0) → let args = c.args in Sized 6 args.n (length args.bytes.now)
+known : (c : tie.Else1) → let args = c.args in Sized 6 args.n (length args.bytes.now)
 known c = sized 6 _ _ (sym c.size_refusal-refused.ensures ∙ c.if-refused-ne0.false)
 
 pub returns-then-refused-ne0 : goal.returns-then-refused-ne0

@@ -13,7 +13,7 @@ use Rattle.numbers.proofs.Settled.{integers}
 use Rattle.numbers.proofs.read_integer.Tie as tie
 use Rattle.numbers.proofs.read_integer.Goals as goal
 
-known : (c : tie.Else-refused-ne0) → let args = c.args in Sized 4 args.n (length args.bytes.now)
+known : (c : tie.Else1) → let args = c.args in Sized 4 args.n (length args.bytes.now)
 known c = sized 4 _ _ (sym c.size_refusal-refused.ensures ∙ c.if-refused-ne0.false)
 
 pub returns-then-refused-ne0 : goal.returns-then-refused-ne0

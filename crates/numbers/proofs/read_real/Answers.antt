@@ -16,11 +16,11 @@ use Rattle.numbers.proofs.Signs.{weight_twice, real_whole}
 use Rattle.numbers.proofs.read_real.Tie as tie
 use Rattle.numbers.proofs.read_real.Goals as goal
 
-tested : (c : tie.After-first-refused) → let a = c.args in c.first-refused.result ≡ read_real_refusal a.n a.m (length a.bytes.now)
+tested : (c : tie.After-first) → let a = c.args in c.first-refused.result ≡ read_real_refusal a.n a.m (length a.bytes.now)
 unfolding read_real_refusal
 tested c = simp (c.first-refused.ensures, c.short.ensures, c.form_refusal.ensures) refl
 
-known : (c : tie.Else-refused-ne0) → let a = c.args in (no_real a.n a.m ≡ false) × (a.n ≤ length a.bytes.now)
+known : (c : tie.Else1) → let a = c.args in (no_real a.n a.m ≡ false) × (a.n ≤ length a.bytes.now)
 known c = real_passed _ _ _ (sym (tested c.before) ∙ c.if-refused-ne0.false)
 
 pub returns-then-refused-ne0 : goal.returns-then-refused-ne0

@@ -12,7 +12,7 @@ use Rattle.pixel_refusals.specs.Refusing.{values_refusal, data_answer}
 use Rattle.pixel_refusals.proofs.data_refusal.Tie as tie
 use Rattle.pixel_refusals.proofs.data_refusal.Goals as goal
 
-admit : (c : tie.Else-refused-ne0) → Admitted 1 12 c.args.sector (length c.args.line.now)
+admit : (c : tie.Else1) → Admitted 1 12 c.args.sector (length c.args.line.now)
 admit c = admitted _ _ _ _ _ (sym c.line_refusal-refused.ensures ∙ c.if-refused-ne0.false)
 
 pub returns-then-refused-ne0 : goal.returns-then-refused-ne0

@@ -7,11 +7,11 @@ use Rattle.reader.proofs.Ways.{Admitted, admitted, read_refused, read_none, read
 use Rattle.reader.proofs.read.Tie as tie
 use Rattle.reader.proofs.read.Goals as goal
 
-abbrev start : (c : tie.After-read_refusal-refused) → tie.Start
+abbrev start : (c : tie.After-read_refusal) → tie.Start
 start c = c.before.before.before
 
 -- where the call is not refused
-known : (c : tie.Else-refused-ne0) → Admitted (start c.before).args.setting (start c.before).args.state (length (start c.before).args.line.now)
+known : (c : tie.Else1) → Admitted (start c.before).args.setting (start c.before).args.state (length (start c.before).args.line.now)
 known c = admitted _ _ _ _ (sym c.read_refusal-refused.ensures ∙ c.if-refused-ne0.false)
 
 pub returns-then-refused-ne0 : goal.returns-then-refused-ne0

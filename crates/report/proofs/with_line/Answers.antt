@@ -16,7 +16,7 @@ use Rattle.report.proofs.Answers.{reported_refused, reported_done, LineServed, l
 use Rattle.report.proofs.with_line.Tie as tie
 use Rattle.report.proofs.with_line.Goals as goal
 
-knows : (c : tie.Else-refused-ne0) → LineServed c.args.format c.args.report (length c.args.line.now)
+knows : (c : tie.Else1) → LineServed c.args.format c.args.report (length c.args.line.now)
 knows c = line_served _ _ _ (sym c.with_line_refusal-refused.ensures ∙ c.if-refused-ne0.false)
 
 pub returns-then-refused-ne0 : goal.returns-then-refused-ne0

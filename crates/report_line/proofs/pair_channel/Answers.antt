@@ -14,10 +14,10 @@ use Rattle.report_line.proofs.Sectors.{Row, upper_row, lower_row, row_inside, ro
 use Rattle.report_line.proofs.pair_channel.Tie as tie
 use Rattle.report_line.proofs.pair_channel.Goals as goal
 
-high : (c : tie.After-layout_of-u) → Row 8 c.layout_of-u.result
+high : (c : tie.After-layout_of) → Row 8 c.layout_of-u.result
 high c = let pre = c.requires in subst (Row 8) (sym c.layout_of-u.ensures) (upper_row _ pre.0 pre.1)
 
-low : (c : tie.After-layout_of-l) → Row 2 c.layout_of-l.result
+low : (c : tie.After-layout_of2) → Row 2 c.layout_of-l.result
 low c = let pre = c.requires in subst (Row 2) (sym c.layout_of-l.ensures) (lower_row _ pre.0 pre.1)
 
 pub returns-then-upper-ne1 : goal.returns-then-upper-ne1

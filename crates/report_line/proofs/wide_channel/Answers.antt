@@ -10,7 +10,7 @@ use Rattle.report_line.proofs.Sectors.{Row, last_row, row_inside, row_places, ro
 use Rattle.report_line.proofs.wide_channel.Tie as tie
 use Rattle.report_line.proofs.wide_channel.Goals as goal
 
-knows : (c : tie.After-layout_of-l) → Row 10 c.layout_of-l.result
+knows : (c : tie.After-layout_of) → Row 10 c.layout_of-l.result
 knows c = subst (Row 10) (sym c.layout_of-l.ensures) last_row
 
 pub returns-then-last-ne1 : goal.returns-then-last-ne1

@@ -11,7 +11,7 @@ use Rattle.sector_tally.proofs.Told.{answer_three, tally_one}
 use Rattle.sector_tally.proofs.line_tally.Tie as tie
 use Rattle.sector_tally.proofs.line_tally.Goals as goal
 
-knows : (c : tie.After-layout_of-l) → Sound c.layout_of-l.result
+knows : (c : tie.After-layout_of) → Sound c.layout_of-l.result
 knows c = subst Sound (sym c.layout_of-l.ensures) (sound _ c.requires.0 c.requires.1)
 
 pub answer-said-requires : goal.answer-said-requires

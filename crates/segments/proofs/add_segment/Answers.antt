@@ -14,19 +14,19 @@ use Rattle.segments.proofs.add_segment.Tie as tie
 use Rattle.segments.proofs.add_segment.Goals as goal
 
 -- the arm of a segment: nothing refuses the line before its bytes are compared, and the segment is that of byte 194
-is_carried : (c : tie.In-Is-2) → let a = c.args in
+is_carried : (c : tie.After-segment) → let a = c.args in
     carried_refusal a.format a.assembly.marks a.line.now a.number (length a.block.now) ≡ 0
 is_carried c = sym c.carried.ensures.0 ∙ ap sub_number c.in-Is.is
 
-is-segment : (c : tie.In-Is-2) → let a = c.args in c.in-Is.segment ≡ segment_in a.line.now
+is-segment : (c : tie.After-segment) → let a = c.args in c.in-Is.segment ≡ segment_in a.line.now
 is-segment c = ap sub_segment (sym c.in-Is.is) ∙ ap (λ (v : ℕ × ℕ). v.0) (c.carried.ensures.1 ∙ kept_none _ _ _ (is_carried c))
 
 -- the other arm: what refuses it
-is-refused : (c : tie.In-Refused-2) → let a = c.args in
+is-refused : (c : tie.After-k) → let a = c.args in
     c.in-Refused.k ≡ carried_refusal a.format a.assembly.marks a.line.now a.number (length a.block.now)
 is-refused c = ap sub_number (sym c.in-Refused.is) ∙ c.carried.ensures.0
 
-some : (c : tie.In-Refused-2) → c.in-Refused.k ≡ 0 → ⊥
+some : (c : tie.After-k) → c.in-Refused.k ≡ 0 → ⊥
 some c z = c.carried.ensures.2 (c.in-Refused.is ∙ ap Refused z)
 
 pub place-requires : goal.place-requires

@@ -9,7 +9,7 @@ use Rattle.segments.proofs.place.Tie as tie
 use Rattle.segments.proofs.place.Goals as goal
 
 -- the refusal is that of the numbers that the line carries
-refusal : (c : tie.After-place_refusal-refused) → let a = c.args in
+refusal : (c : tie.After-place_refusal) → let a = c.args in
     c.place_refusal-refused.result ≡ place_refusal a.number a.assembly (revisions_in a.line.now) a.line.now a.segment a.block.now
 refusal c =
     let a = c.args in
@@ -17,7 +17,7 @@ refusal c =
     ∙ ap (λ (r : Revisions). place_refusal a.number a.assembly r a.line.now a.segment a.block.now) c.revisions_in-carried.ensures
 
 -- and so are the numbers that the assembly remembers
-from-now-on : (c : tie.After-remembered-revisions) → let a = c.args in
+from-now-on : (c : tie.After-remembered) → let a = c.args in
     c.remembered-revisions.result ≡ remembered a.assembly (revisions_in a.line.now)
 from-now-on c =
     let a = c.args in

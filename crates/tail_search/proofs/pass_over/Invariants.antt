@@ -5,7 +5,7 @@ use Rattle.tail_search.specs.Search.{PassedOk}
 use Rattle.tail_search.proofs.pass_over.Given as goal
 
 abbrev pub invariant-loop-taken : goal.invariant-loop-taken
-invariant-loop-taken l = PassedOk l.setting l.piece l.at l.byte0 l.count l.search0 (record { l.taken = l.taken; l.byte = l.byte; l.search = l.search })
+invariant-loop-taken l = PassedOk l.setting l.piece l.at l.byte0 l.count l.search0 (record { taken = l.taken; byte = l.byte; search = l.search })
 
 abbrev pub decreases-loop-taken : goal.decreases-loop-taken
 decreases-loop-taken l = length l.piece - l.taken

@@ -9,7 +9,7 @@ use Rattle.write_refusals.specs.Refusing.{input_short, put_data_answer}
 use Rattle.write_refusals.proofs.data_refusal.Tie as tie
 use Rattle.write_refusals.proofs.data_refusal.Goals as goal
 
-serves : (c : tie.Else-refused-ne0) → Inside 1 12 c.args.sector
+serves : (c : tie.Else1) → Inside 1 12 c.args.sector
 serves c = served _ _ _ _ (sym c.asked-refused.ensures ∙ c.if-refused-ne0.false)
 
 pub returns-then-refused-ne0 : goal.returns-then-refused-ne0

@@ -13,7 +13,7 @@ use Rattle.write_refusals.proofs.Writable.{row-chain}
 use Rattle.write_refusals.proofs.wide_refusal.Tie as tie
 use Rattle.write_refusals.proofs.wide_refusal.Goals as goal
 
-serves : (c : tie.Else-refused-ne0) → Inside 12 12 c.args.sector
+serves : (c : tie.Else1) → Inside 12 12 c.args.sector
 serves c = served _ _ _ _ (sym c.asked-refused.ensures ∙ c.if-refused-ne0.false)
 
 pub returns-then-refused-ne0 : goal.returns-then-refused-ne0

@@ -10,10 +10,10 @@ use Rattle.bcd_dates.specs.Decimals.{bcd_in, bcd_at}
 use Rattle.bcd_dates.proofs.decimals.two_digits.Tie as tie
 use Rattle.bcd_dates.proofs.decimals.two_digits.Goals as goal
 
-is_read : (c : tie.In-Is-2) → let args = c.args in bcd_in args.bytes.now args.at 1 ≡ Is c.in-Is.v
+is_read : (c : tie.After-v) → let args = c.args in bcd_in args.bytes.now args.at 1 ≡ Is c.in-Is.v
 is_read c = sym c.bcd_in.ensures ∙ c.in-Is.is
 
-small : (c : tie.In-Is-2) → c.in-Is.v < 100
+small : (c : tie.After-v) → c.in-Is.v < 100
 unfolding bcd_in
 small c = bcd_lt 1 _ _ (is_read c)
 

@@ -23,7 +23,7 @@ use Rattle.channels.proofs.join.joined.Goals as goal
 abbrev Asked : Layout → Layout → ℕ → ℕ → Type 0
 Asked u l len room = Sound u × Sound l × (u.width ≡ 8) × (l.width ≡ 2) × (l.count ≡ u.count) × (line_bytes ≤ len) × (u.count ≤ room)
 
-knows : (c : tie.Else-refused-ne0) → let a = c.args in
+knows : (c : tie.Else1) → let a = c.args in
     Readable 1 3 a.channel (length a.line.now) (check_start a.format) (upper_of a.channel) (bits_of a.line.now) (length a.out.now) (upper_of a.channel).count
 unfolding joined_answer
 knows c = readable_more c.args.format 1 3 _ _ _ _ _ _ _ _ (sym c.joined_refusal-refused.ensures ∙ c.if-refused-ne0.false)

@@ -11,7 +11,7 @@ use Rattle.document.proofs.Settled.{scanner_kind, scanner-select-told}
 use Rattle.document.proofs.modes.scanner_select.Tie as tie
 use Rattle.document.proofs.modes.scanner_select.Goals as goal
 
-long : (c : tie.Else-refused-ne0) → line_bytes ≤ length c.args.line.now
+long : (c : tie.Else1) → line_bytes ≤ length c.args.line.now
 long c = doc_long _ _ (sym c.doc_refusal-refused.ensures ∙ c.if-refused-ne0.false)
 
 pub returns-then-refused-ne0 : goal.returns-then-refused-ne0

@@ -12,11 +12,11 @@ use Rattle.document.proofs.Settled.{sub_kind}
 use Rattle.document.proofs.segments.sub_commutation.Tie as tie
 use Rattle.document.proofs.segments.sub_commutation.Goals as goal
 
-long : (c : tie.Else-refused-ne0) → line_bytes ≤ length c.args.line.now
+long : (c : tie.Else1) → line_bytes ≤ length c.args.line.now
 long c = doc_long _ _ (sym c.doc_refusal-refused.ensures ∙ c.if-refused-ne0.false)
 
 -- what the tests of the four bytes give is what the call gives
-tested : (c : tie.After-segment_refusal-wrong)
+tested : (c : tie.After-segment_refusal)
     → let a = c.args in c.segment_refusal-wrong.result ≡ sub_commutation_refusal a.format a.line.now
 unfolding sub_commutation_refusal
 tested c =

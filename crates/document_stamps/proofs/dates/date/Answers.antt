@@ -14,11 +14,11 @@ use Rattle.document_stamps.proofs.Settled.{dated_kind}
 use Rattle.document_stamps.proofs.dates.date.Tie as tie
 use Rattle.document_stamps.proofs.dates.date.Goals as goal
 
-long : (c : tie.Else-refused-ne0) → line_bytes ≤ length c.args.line.now
+long : (c : tie.Else1) → line_bytes ≤ length c.args.line.now
 long c = doc_long _ _ (sym c.doc_refusal-refused.ensures ∙ c.if-refused-ne0.false)
 
 -- what the tests of the eight bytes give is what the call gives
-tested : (c : tie.After-date_refusal-wrong) → let a = c.args in c.date_refusal-wrong.result ≡ date_refusal a.format a.line.now
+tested : (c : tie.After-date_refusal) → let a = c.args in c.date_refusal-wrong.result ≡ date_refusal a.format a.line.now
 unfolding date_refusal doc_part stretch
 tested c =
     passed _ _ _ _ c.doc_refusal-refused.ensures c.if-refused-ne0.false c.date_refusal-wrong.ensures

@@ -11,11 +11,11 @@ use Rattle.document_stamps.proofs.Settled.{numbered_kind}
 use Rattle.document_stamps.proofs.lines.line_numbers.Tie as tie
 use Rattle.document_stamps.proofs.lines.line_numbers.Goals as goal
 
-long : (c : tie.Else-refused-ne0) → line_bytes ≤ length c.args.line.now
+long : (c : tie.Else1) → line_bytes ≤ length c.args.line.now
 long c = doc_long _ _ (sym c.doc_refusal-refused.ensures ∙ c.if-refused-ne0.false)
 
 -- what the tests of the numbers give is what the call gives
-tested : (c : tie.After-counts_refusal-wrong) → let a = c.args in c.counts_refusal-wrong.result ≡ line_numbers_refusal a.format a.line.now
+tested : (c : tie.After-counts_refusal) → let a = c.args in c.counts_refusal-wrong.result ≡ line_numbers_refusal a.format a.line.now
 unfolding line_numbers_refusal
 tested c = passed _ _ _ _ c.doc_refusal-refused.ensures c.if-refused-ne0.false c.counts_refusal-wrong.ensures
 

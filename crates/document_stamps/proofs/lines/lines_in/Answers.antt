@@ -10,7 +10,7 @@ use Rattle.document_stamps.proofs.lines.lines_in.Tie as tie
 use Rattle.document_stamps.proofs.lines.lines_in.Goals as goal
 
 -- the position, read again from its bits
-back : (c : tie.After-position_of-position) → to_z w32 (of_z w32 c.position_of-position.result) ≡ c.position_of-position.result
+back : (c : tie.After-position_of) → to_z w32 (of_z w32 c.position_of-position.result) ≡ c.position_of-position.result
 back c = to_z-of_z (subst (SFits w32) (sym c.position_of-position.ensures) (position_fits _ _ (omega arith) (omega arith)))
 
 pub returns : goal.returns

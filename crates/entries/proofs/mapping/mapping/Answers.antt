@@ -11,7 +11,7 @@ use Rattle.entries.proofs.Settled.{points}
 use Rattle.entries.proofs.mapping.mapping.Tie as tie
 use Rattle.entries.proofs.mapping.mapping.Goals as goal
 
-refusal : (c : tie.After-entry_refusal-refused) → let a = c.args in
+refusal : (c : tie.After-entry_refusal) → let a = c.args in
     c.entry_refusal-refused.result ≡ mapping_refusal a.format a.assembly.marks a.row a.column (length a.block.now)
 unfolding grid_refusal
 refusal c =
@@ -20,7 +20,7 @@ refusal c =
     ∙ ap (λ (n : ℕ). entry_refusal a.format a.assembly.marks mapping 0 n (length a.block.now)) (c.first-range.ensures ∙ ap₂ first c.outside.ensures c.outside-2.ensures)
 
 -- what `grid_at` asks
-asks : (c : tie.Else-refused-ne0) → let a = c.args in (a.row ≤ 24) × (a.column ≤ 24) × (2500 ≤ length a.block.now)
+asks : (c : tie.Else1) → let a = c.args in (a.row ≤ 24) × (a.column ≤ 24) × (2500 ≤ length a.block.now)
 asks c =
     let a = c.args in
     let h = in_grid a.format a.assembly.marks a.row a.column (length a.block.now) (sym (refusal c.before) ∙ c.if-refused-ne0.false) in

@@ -8,7 +8,7 @@ use Rattle.entries.proofs.Settled.{revisions}
 use Rattle.entries.proofs.revision.revision.Tie as tie
 use Rattle.entries.proofs.revision.revision.Goals as goal
 
-refusal : (c : tie.After-entry_refusal-refused) → let a = c.args in
+refusal : (c : tie.After-entry_refusal) → let a = c.args in
     c.entry_refusal-refused.result ≡ revision_refusal a.format a.assembly a.number (length a.block.now)
 refusal c =
     let a = c.args in

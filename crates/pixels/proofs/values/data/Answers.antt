@@ -14,7 +14,7 @@ use Rattle.pixel_refusals.proofs.Readable.{data_readable, ready}
 use Rattle.pixels.proofs.values.data.Tie as tie
 use Rattle.pixels.proofs.values.data.Goals as goal
 
-none : (c : tie.Else-refused-ne0) → let a = c.args in data_answer a.format a.line.now a.sector (length a.out.now) ≡ 0
+none : (c : tie.Else1) → let a = c.args in data_answer a.format a.line.now a.sector (length a.out.now) ≡ 0
 none c = sym c.data_refusal-refused.ensures ∙ c.if-refused-ne0.false
 
 pub returns-then-refused-ne0 : goal.returns-then-refused-ne0

@@ -15,7 +15,7 @@ use Rattle.pixel_refusals.proofs.Readable.{pixels_readable, ready}
 use Rattle.pixels.proofs.values.pixels.Tie as tie
 use Rattle.pixels.proofs.values.pixels.Goals as goal
 
-none : (c : tie.Else-refused-ne0) → let a = c.args in pixels_answer 2 11 a.format a.line.now a.sector (length a.out.now) ≡ 0
+none : (c : tie.Else1) → let a = c.args in pixels_answer 2 11 a.format a.line.now a.sector (length a.out.now) ≡ 0
 none c = sym c.pixels_refusal-refused.ensures ∙ c.if-refused-ne0.false
 
 pub returns-then-refused-ne0 : goal.returns-then-refused-ne0

@@ -13,7 +13,7 @@ use Rattle.write_refusals.proofs.Writable.{Writable, data_writable, ready}
 use Rattle.sector_writer.proofs.write.put_data.Tie as tie
 use Rattle.sector_writer.proofs.write.put_data.Goals as goal
 
-knows : (c : tie.Else-refused-ne0) → let a = c.args in Writable 1 12 a.sector (length a.line.now) (length a.bytes.now) (bytes_of (layout_of a.sector))
+knows : (c : tie.Else1) → let a = c.args in Writable 1 12 a.sector (length a.line.now) (length a.bytes.now) (bytes_of (layout_of a.sector))
 knows c = data_writable _ _ _ _ (sym c.data_refusal-refused.ensures ∙ c.if-refused-ne0.false)
 
 pub returns-then-refused-ne0 : goal.returns-then-refused-ne0

@@ -13,7 +13,7 @@ use Rattle.write_refusals.proofs.Writable.{Writable, pixels-writable, ready}
 use Rattle.sector_writer.proofs.write.put_pixels.Tie as tie
 use Rattle.sector_writer.proofs.write.put_pixels.Goals as goal
 
-knows : (c : tie.Else-refused-ne0) → let a = c.args in Writable 2 11 a.sector (length a.line.now) (length a.pixels.now) (layout_of a.sector).count
+knows : (c : tie.Else1) → let a = c.args in Writable 2 11 a.sector (length a.line.now) (length a.pixels.now) (layout_of a.sector).count
 knows c = pixels-writable 2 11 _ _ _ _ (sym c.pixels_refusal-refused.ensures ∙ c.if-refused-ne0.false)
 
 pub returns-then-refused-ne0 : goal.returns-then-refused-ne0

@@ -13,7 +13,7 @@ use Rattle.sector_table.proofs.Table.{sound}
 use Rattle.sectors.proofs.check.filler.Tie as tie
 use Rattle.sectors.proofs.check.filler.Goals as goal
 
-admit : (c : tie.Else-refused-ne0) → Admitted 1 12 c.args.sector (length c.args.line.now)
+admit : (c : tie.Else1) → Admitted 1 12 c.args.sector (length c.args.line.now)
 admit c = admitted _ _ _ _ _ (sym c.line_refusal-refused.ensures ∙ c.if-refused-ne0.false)
 
 pub returns-then-refused-ne0 : goal.returns-then-refused-ne0

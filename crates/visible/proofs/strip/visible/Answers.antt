@@ -16,7 +16,7 @@ use Rattle.visible.proofs.Parts.{visible_count}
 use Rattle.visible.proofs.strip.visible.Tie as tie
 use Rattle.visible.proofs.strip.visible.Goals as goal
 
-answers : (c : tie.After-answer-refused) → let a = c.args in c.answer-refused.result ≡ answer_of a.start (layout_of a.sector) (bits_of a.line.now)
+answers : (c : tie.After-answer) → let a = c.args in c.answer-refused.result ≡ answer_of a.start (layout_of a.sector) (bits_of a.line.now)
 answers c =
     let a = c.args in
     c.answer-refused.ensures ∙ ap (λ (l : Layout). answer_of a.start l (bits_of a.line.now)) c.layout_of-l.ensures
