@@ -17,12 +17,7 @@ use Rattle.numbers.proofs.Ranges.{real_form}
 use Rattle.numbers.proofs.Signs.{sign_digits}
 use Rattle.number_writer.proofs.Puts.{put_passed, put_done, written_done}
 use Rattle.number_writer.proofs.Settled.{put_real_told}
-use Rattle.number_writer.proofs.put_real.Tie as tie
 use Rattle.number_writer.proofs.put_real.Goals as goal
-
-known : (c : tie.Else1)
-    → let a = c.args in (no_real a.n a.m ≡ false) × (a.magnitude < 2 ^ magnitude_bits a.n) × (a.n ≤ length a.out.now)
-known c = put_passed _ _ _ _ (sym c.put_refusal-refused.ensures ∙ c.if-refused-ne0.false)
 
 pub returns-then-refused-ne0 : goal.returns-then-refused-ne0
 unfolding put_real_answer put_real_left
@@ -31,22 +26,32 @@ returns-then-refused-ne0 c =
     (put_real_told _ _ _ _ _ (given_some Refused _ _ _ e c.if-refused-ne0.true), sym (kept_some _ _ _ (λ z. c.if-refused-ne0.true (e ∙ z))))
 
 pub sign_weight-weight-requires : goal.sign_weight-weight-requires
-sign_weight-weight-requires c = let f = real_form _ _ (known c.before).0 in search rules
+sign_weight-weight-requires c =
+    let known : let a = c.args in (no_real a.n a.m ≡ false) × (a.magnitude < 2 ^ magnitude_bits a.n) × (a.n ≤ length a.out.now) =
+      put_passed _ _ _ _ (sym c.put_refusal-refused.ensures ∙ c.if-refused-ne0.false) in
+    let f = real_form _ _ known.0 in search rules
 
 pub put_together-requires : goal.put_together-requires
 put_together-requires c =
+    let known : let a = c.args in (no_real a.n a.m ≡ false) × (a.magnitude < 2 ^ magnitude_bits a.n) × (a.n ≤ length a.out.now) =
+      put_passed _ _ _ _ (sym c.put_refusal-refused.ensures ∙ c.if-refused-ne0.false) in
     let weight = c.sign_weight-weight.ensures in
     let n = c.args.n in
-    let f = real_form _ _ (known c.before.before).0 in
+    let f = real_form _ _ known.0 in
     let most : magnitude_bits n ≤ 63 = omega arith in
-    (rw weight (known c.before.before).1, rw weight (pow_mono {i = magnitude_bits n} {j = 63} most))
+    (rw weight known.1, rw weight (pow_mono {i = magnitude_bits n} {j = 63} most))
 
 pub put_whole-requires : goal.put_whole-requires
-put_whole-requires c = let k = known c.before.before.before.before in let f = real_form _ _ k.0 in search rules
+put_whole-requires c =
+    let known : let a = c.args in (no_real a.n a.m ≡ false) × (a.magnitude < 2 ^ magnitude_bits a.n) × (a.n ≤ length a.out.now) =
+      put_passed _ _ _ _ (sym c.put_refusal-refused.ensures ∙ c.if-refused-ne0.false) in
+    let k = known in let f = real_form _ _ k.0 in search rules
 
 pub returns : goal.returns
 unfolding real_bytes
 returns c =
+    let known : let a = c.args in (no_real a.n a.m ≡ false) × (a.magnitude < 2 ^ magnitude_bits a.n) × (a.n ≤ length a.out.now) =
+      put_passed _ _ _ _ (sym c.put_refusal-refused.ensures ∙ c.if-refused-ne0.false) in
     let passed = c.before.before.before.before.before.before.before in
     let args = c.args in
     let s = args.negative in

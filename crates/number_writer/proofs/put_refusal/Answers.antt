@@ -11,18 +11,17 @@ use Rattle.refusals.proofs.Words.{refused, passed}
 use Rattle.numbers.specs.Reals.{no_real, magnitude_bits}
 use Rattle.number_writer.specs.Written.{put_real_refusal}
 use Rattle.numbers.proofs.Ranges.{formed, real_form}
-use Rattle.number_writer.proofs.put_refusal.Tie as tie
 use Rattle.number_writer.proofs.put_refusal.Goals as goal
-
-in_range : (c : tie.Else1) → no_real c.args.n c.args.m ≡ false
-in_range c = formed _ _ (sym c.form_refusal-form.ensures ∙ c.if-form-ne0.false)
 
 pub returns-then-form-ne0 : goal.returns-then-form-ne0
 unfolding put_real_refusal
 returns-then-form-ne0 c = refused _ _ _ c.form_refusal-form.ensures c.if-form-ne0.true
 
 pub sign_weight-weight-requires : goal.sign_weight-weight-requires
-sign_weight-weight-requires c = let f = real_form _ _ (in_range c.before) in search rules
+sign_weight-weight-requires c =
+    let in_range : no_real c.args.n c.args.m ≡ false =
+      formed _ _ (sym c.form_refusal-form.ensures ∙ c.if-form-ne0.false) in
+    let f = real_form _ _ in_range in search rules
 
 pub overflow_sub-weight : goal.overflow_sub-weight
 overflow_sub-weight c = omega (arith, pow_pos (magnitude_bits c.args.n))

@@ -6,12 +6,7 @@ use lib.Dec.{eqb}
 use borrow.Author.Tests.{eq-eqb, ne_eqb, lt-ltb, le-ltb}
 use Rattle.refusals.specs.Refusals.{when}
 use Rattle.numbers.specs.Reals.{no_real, form_refusal}
-use Rattle.numbers.proofs.form_refusal.Tie as tie
 use Rattle.numbers.proofs.form_refusal.Goals as goal
-
--- where the two tests on n have met
-one : (c : tie.Joined1) → (not (eqb c.args.n 4) && not (eqb c.args.n 6)) ≡ false
-one c = ⊎_elim (λ w. rw (ne_eqb _ _ w.0.taken) w.1.left) (λ w. rw (eq-eqb _ _ w.left) refl) c.else-n-ne4.branch
 
 pub returns-then-n-ne6 : goal.returns-then-n-ne6
 unfolding form_refusal no_real when
@@ -19,8 +14,14 @@ returns-then-n-ne6 c = rw (ne_eqb _ _ c.if-n-ne4.true, c.if-n-ne6.true) refl
 
 pub returns-then-m-gt15 : goal.returns-then-m-gt15
 unfolding form_refusal no_real when
-returns-then-m-gt15 c = rw (one c.before.before, lt-ltb _ _ c.if-m-gt15.true) refl
+returns-then-m-gt15 c =
+    let one : (not (eqb c.args.n 4) && not (eqb c.args.n 6)) ≡ false =
+      ⊎_elim (λ w. rw (ne_eqb _ _ w.0.taken) w.1.left) (λ w. rw (eq-eqb _ _ w.left) refl) c.else-n-ne4.branch in
+    rw (one, lt-ltb _ _ c.if-m-gt15.true) refl
 
 pub returns : goal.returns
 unfolding form_refusal no_real when
-returns c = rw (one c.before.before, le-ltb _ _ c.if-m-gt15.false) refl
+returns c =
+    let one : (not (eqb c.args.n 4) && not (eqb c.args.n 6)) ≡ false =
+      ⊎_elim (λ w. rw (ne_eqb _ _ w.0.taken) w.1.left) (λ w. rw (eq-eqb _ _ w.left) refl) c.else-n-ne4.branch in
+    rw (one, le-ltb _ _ c.if-m-gt15.false) refl

@@ -9,11 +9,7 @@ use Rattle.sector_table.specs.Layout.{bytes_of, Sound}
 use Rattle.sector_table.proofs.Admitted.{Admitted, admitted}
 use Rattle.sector_table.proofs.Table.{sound}
 use Rattle.pixel_refusals.specs.Refusing.{values_refusal, data_answer}
-use Rattle.pixel_refusals.proofs.data_refusal.Tie as tie
 use Rattle.pixel_refusals.proofs.data_refusal.Goals as goal
-
-admit : (c : tie.Else1) → Admitted 1 12 c.args.sector (length c.args.line.now)
-admit c = admitted _ _ _ _ _ (sym c.line_refusal-refused.ensures ∙ c.if-refused-ne0.false)
 
 pub returns-then-refused-ne0 : goal.returns-then-refused-ne0
 unfolding data_answer
@@ -21,15 +17,21 @@ returns-then-refused-ne0 c = refused _ _ _ c.line_refusal-refused.ensures c.if-r
 
 pub layout_of-l-requires : goal.layout_of-l-requires
 layout_of-l-requires c =
-    let h = admit c.before in (h.low, h.high)
+    let admit : Admitted 1 12 c.args.sector (length c.args.line.now) =
+      admitted _ _ _ _ _ (sym c.line_refusal-refused.ensures ∙ c.if-refused-ne0.false) in
+    let h = admit in (h.low, h.high)
 
 pub data_bytes-requires : goal.data_bytes-requires
 data_bytes-requires c =
-    let h = admit c.before.before.before in subst Sound (sym c.layout_of-l.ensures) (sound _ h.low h.high)
+    let admit : Admitted 1 12 c.args.sector (length c.args.line.now) =
+      admitted _ _ _ _ _ (sym c.line_refusal-refused.ensures ∙ c.if-refused-ne0.false) in
+    let h = admit in subst Sound (sym c.layout_of-l.ensures) (sound _ h.low h.high)
 
 pub values_refusal-requires : goal.values_refusal-requires
 values_refusal-requires c =
-    let h = admit c.before.before.before.before in (subst Sound (sym c.layout_of-l.ensures) (sound _ h.low h.high), h.long)
+    let admit : Admitted 1 12 c.args.sector (length c.args.line.now) =
+      admitted _ _ _ _ _ (sym c.line_refusal-refused.ensures ∙ c.if-refused-ne0.false) in
+    let h = admit in (subst Sound (sym c.layout_of-l.ensures) (sound _ h.low h.high), h.long)
 
 pub returns : goal.returns
 unfolding data_answer

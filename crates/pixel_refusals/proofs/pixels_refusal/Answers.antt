@@ -10,11 +10,7 @@ use Rattle.sector_table.specs.Layout.{Sound}
 use Rattle.sector_table.proofs.Admitted.{Admitted, admitted}
 use Rattle.sector_table.proofs.Table.{sound}
 use Rattle.pixel_refusals.specs.Refusing.{values_refusal, pixels_answer}
-use Rattle.pixel_refusals.proofs.pixels_refusal.Tie as tie
 use Rattle.pixel_refusals.proofs.pixels_refusal.Goals as goal
-
-admit : (c : tie.Else1) → Admitted c.args.lo c.args.hi c.args.sector (length c.args.line.now)
-admit c = admitted _ _ _ _ _ (sym c.line_refusal-refused.ensures ∙ c.if-refused-ne0.false)
 
 pub returns-then-refused-ne0 : goal.returns-then-refused-ne0
 unfolding pixels_answer
@@ -22,11 +18,15 @@ returns-then-refused-ne0 c = refused _ _ _ c.line_refusal-refused.ensures c.if-r
 
 pub layout_of-l-requires : goal.layout_of-l-requires
 layout_of-l-requires c =
-    let h = admit c.before in (le_trans c.requires.0 h.low, le_trans h.high c.requires.1)
+    let admit : Admitted c.args.lo c.args.hi c.args.sector (length c.args.line.now) =
+      admitted _ _ _ _ _ (sym c.line_refusal-refused.ensures ∙ c.if-refused-ne0.false) in
+    let h = admit in (le_trans c.requires.0 h.low, le_trans h.high c.requires.1)
 
 pub values_refusal-requires : goal.values_refusal-requires
 values_refusal-requires c =
-    let h = admit c.before.before.before in (subst Sound (sym c.layout_of-l.ensures) (sound _ (le_trans c.requires.0 h.low) (le_trans h.high c.requires.1)), h.long)
+    let admit : Admitted c.args.lo c.args.hi c.args.sector (length c.args.line.now) =
+      admitted _ _ _ _ _ (sym c.line_refusal-refused.ensures ∙ c.if-refused-ne0.false) in
+    let h = admit in (subst Sound (sym c.layout_of-l.ensures) (sound _ (le_trans c.requires.0 h.low) (le_trans h.high c.requires.1)), h.long)
 
 pub returns : goal.returns
 unfolding pixels_answer

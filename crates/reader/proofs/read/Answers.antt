@@ -7,29 +7,35 @@ use Rattle.reader.proofs.Ways.{Admitted, admitted, read_refused, read_none, read
 use Rattle.reader.proofs.read.Tie as tie
 use Rattle.reader.proofs.read.Goals as goal
 
-abbrev start : (c : tie.After-read_refusal) → tie.Start
-start c = c.before.before.before
-
--- where the call is not refused
-known : (c : tie.Else1) → Admitted (start c.before).args.setting (start c.before).args.state (length (start c.before).args.line.now)
-known c = admitted _ _ _ _ (sym c.read_refusal-refused.ensures ∙ c.if-refused-ne0.false)
-
 pub returns-then-refused-ne0 : goal.returns-then-refused-ne0
 returns-then-refused-ne0 c =
-    let args = (start c.before.before).args in
+    let start : tie.Start =
+      c.before.before.before in
+    let args = start.args in
     read_refused args.format args.setting args.state args.piece.now args.line.now _ c.read_refusal-refused.ensures c.if-refused-ne0.true
 
 pub returns-then-piece-eq0 : goal.returns-then-piece-eq0
 returns-then-piece-eq0 c =
+    let start : tie.Start =
+      c.before.before.before in
     let at_1 = c.before.before in
     let args = (start at_1.before).args in
     read_none args.format args.setting args.state args.piece.now args.line.now _ c.read_refusal-refused.ensures c.if-refused-ne0.false c.if-piece-eq0.true
 
 pub to_line-requires : goal.to_line-requires
-to_line-requires c = let k = known c.before.before.before.before in fill_in (facts _ k.possible) c.if-state.true k.long
+to_line-requires c =
+    let start : tie.Start =
+      c.before.before.before in
+    let known : Admitted start.args.setting start.args.state (length start.args.line.now) =
+      admitted _ _ _ _ (sym c.read_refusal-refused.ensures ∙ c.if-refused-ne0.false) in
+    let k = known in fill_in (facts _ k.possible) c.if-state.true k.long
 
 pub returns-then-state : goal.returns-then-state
 returns-then-state c =
+    let start : tie.Start =
+      c.before.before.before in
+    let known : Admitted start.args.setting start.args.state (length start.args.line.now) =
+      admitted _ _ _ _ (sym c.read_refusal-refused.ensures ∙ c.if-refused-ne0.false) in
     let at_1 = c.before.before.before.before.before.before.before in
     let args = (start at_1.before).args in
     read-call args.format args.setting args.state args.piece.now args.line.now _ c.read_refusal-refused.ensures c.if-refused-ne0.false c.if-piece-eq0.false
@@ -37,15 +43,26 @@ returns-then-state c =
     (call-in args.setting args.state args.piece.now args.line.now c.if-piece-eq0.false c.if-state.true (counts-true-in args.state c.if-state.true (facts args.state (known at_1).possible).counts).1))
 
 pub seek-requires : goal.seek-requires
-seek-requires c = let f = facts _ (known c.before.before.before).possible in (f.count, f.remembered, omega (arith, f.seven))
+seek-requires c =
+    let start : tie.Start =
+      c.before.before.before in
+    let known : Admitted start.args.setting start.args.state (length start.args.line.now) =
+      admitted _ _ _ _ (sym c.read_refusal-refused.ensures ∙ c.if-refused-ne0.false) in
+    let f = facts _ known.possible in (f.count, f.remembered, omega (arith, f.seven))
 
 pub to_line-requires-in-Found : goal.to_line-requires-in-Found
 to_line-requires-in-Found c =
+    let start : tie.Start =
+      c.before.before.before in
+    let known : Admitted start.args.setting start.args.state (length start.args.line.now) =
+      admitted _ _ _ _ (sym c.read_refusal-refused.ensures ∙ c.if-refused-ne0.false) in
     let at-seek = c.before.before.before.before.before in
     fill_found c.seek.ensures c.in-Found.is (omega arith) (omega arith) (known at-seek.before.before.before).long
 
 pub returns-in-Nothing : goal.returns-in-Nothing
 returns-in-Nothing c =
+    let start : tie.Start =
+      c.before.before.before in
     let at_1 = c.before.before.before.before.before.before.before.before in
     let args = (start at_1.before).args in
     read-call args.format args.setting args.state args.piece.now args.line.now _ c.read_refusal-refused.ensures c.if-refused-ne0.false c.if-piece-eq0.false
@@ -54,6 +71,8 @@ returns-in-Nothing c =
 
 pub returns-in-Found : goal.returns-in-Found
 returns-in-Found c =
+    let start : tie.Start =
+      c.before.before.before in
     let at_1 = c.before.before.before.before.before.before.before.before.before.before.before in
     let args = (start at_1.before).args in
     read-call args.format args.setting args.state args.piece.now args.line.now _ c.read_refusal-refused.ensures c.if-refused-ne0.false c.if-piece-eq0.false

@@ -13,24 +13,26 @@ use Rattle.report_record.specs.Possible.{possible_report}
 use Rattle.report.specs.Calls.{with_line_answer}
 use Rattle.report_line.proofs.Passing.{report-passes}
 use Rattle.report.proofs.Answers.{reported_refused, reported_done, LineServed, line_served}
-use Rattle.report.proofs.with_line.Tie as tie
 use Rattle.report.proofs.with_line.Goals as goal
-
-knows : (c : tie.Else1) → LineServed c.args.format c.args.report (length c.args.line.now)
-knows c = line_served _ _ _ (sym c.with_line_refusal-refused.ensures ∙ c.if-refused-ne0.false)
 
 pub returns-then-refused-ne0 : goal.returns-then-refused-ne0
 unfolding with_line_answer
 returns-then-refused-ne0 c = reported_refused _ _ _ _ c.with_line_refusal-refused.ensures c.if-refused-ne0.true
 
 pub line_report-one-requires : goal.line_report-one-requires
-line_report-one-requires c = (knows c.before.before).long
+line_report-one-requires c =
+    let knows : LineServed c.args.format c.args.report (length c.args.line.now) =
+      line_served _ _ _ (sym c.with_line_refusal-refused.ensures ∙ c.if-refused-ne0.false) in
+    knows.long
 
 pub add-both-requires : goal.add-both-requires
 unfolding Plain
-add-both-requires c = let a = c.args in
+add-both-requires c =
+    let knows : LineServed c.args.format c.args.report (length c.args.line.now) =
+      line_served _ _ _ (sym c.with_line_refusal-refused.ensures ∙ c.if-refused-ne0.false) in
+    let a = c.args in
     let b = bits_of a.line.now in
-    ((knows c.before.before.before).one, subst (λ (x : Report). possible_report x ≡ true) (sym c.line_report-one.ensures) (report-passes _ (b ∷ []) (bits_below a.line.now, tt) (omega arith)))
+    (knows.one, subst (λ (x : Report). possible_report x ≡ true) (sym c.line_report-one.ensures) (report-passes _ (b ∷ []) (bits_below a.line.now, tt) (omega arith)))
 
 pub returns : goal.returns
 unfolding with_line_answer report_of

@@ -11,14 +11,7 @@ use Rattle.sector_check.specs.Sector.{pixels_of, joined_of}
 use Rattle.report_record.specs.Report.{channel_of}
 use Rattle.report_record.proofs.Rows.{and_both, and_fails, and_fails_left}
 use Rattle.report_line.proofs.Sectors.{Row, upper_row, lower_row, row_inside, row_places, row_pixels, given_none, given_some}
-use Rattle.report_line.proofs.pair_channel.Tie as tie
 use Rattle.report_line.proofs.pair_channel.Goals as goal
-
-high : (c : tie.After-layout_of) → Row 8 c.layout_of-u.result
-high c = let pre = c.requires in subst (Row 8) (sym c.layout_of-u.ensures) (upper_row _ pre.0 pre.1)
-
-low : (c : tie.After-layout_of2) → Row 2 c.layout_of-l.result
-low c = let pre = c.requires in subst (Row 2) (sym c.layout_of-l.ensures) (lower_row _ pre.0 pre.1)
 
 pub returns-then-upper-ne1 : goal.returns-then-upper-ne1
 returns-then-upper-ne1 c = c.no_pixels.ensures ∙ given_none _ _ (and_fails_left _ _ (ne_eqb _ _ c.if-upper-ne1.true))
@@ -31,19 +24,35 @@ returns-then-lower-ne1 c =
     ∙ given_none (eqb a.upper.accepted 1 && eqb a.lower.accepted 1) (joined_of (pixels_of (upper_of a.channel) b) (pixels_of (lower_of a.channel) b)) (and_fails (eqb a.upper.accepted 1) _ (ne_eqb _ _ c.if-lower-ne1.true))
 
 pub overflow_add-u : goal.overflow_add-u
-overflow_add-u c = let r = high c.before.before.before in omega (arith, row_places 8 _ r)
+overflow_add-u c =
+    let high : Row 8 c.layout_of-u.result =
+      let pre = c.requires in subst (Row 8) (sym c.layout_of-u.ensures) (upper_row _ pre.0 pre.1) in
+    let r = high in omega (arith, row_places 8 _ r)
 
 pub overflow_add-l : goal.overflow_add-l
-overflow_add-l c = let r = low c.before.before.before in omega (arith, row_places 2 _ r)
+overflow_add-l c =
+    let low : Row 2 c.layout_of-l.result =
+      let pre = c.requires in subst (Row 2) (sym c.layout_of-l.ensures) (lower_row _ pre.0 pre.1) in
+    let r = low in omega (arith, row_places 2 _ r)
 
 pub pair_run-requires : goal.pair_run-requires
-pair_run-requires c = let u = high c.before.before.before.before in
-    let l = low c.before.before.before in
+pair_run-requires c =
+    let high : Row 8 c.layout_of-u.result =
+      let pre = c.requires in subst (Row 8) (sym c.layout_of-u.ensures) (upper_row _ pre.0 pre.1) in
+    let low : Row 2 c.layout_of-l.result =
+      let pre = c.requires in subst (Row 2) (sym c.layout_of-l.ensures) (lower_row _ pre.0 pre.1) in
+    let u = high in
+    let l = low in
     let long = c.requires.2 in
     (omega (arith, u.many, row_inside 8 _ _ u long), omega (arith, u.many, row_inside 2 _ _ l long), omega (arith, u.many, row_places 8 _ u), omega (arith, u.many, row_places 2 _ l), omega (arith, u.many), omega (arith, u.many))
 
 pub returns : goal.returns
-returns c = let laid2 = c.before.before.before.before in
+returns c =
+    let high : Row 8 c.layout_of-u.result =
+      let pre = c.requires in subst (Row 8) (sym c.layout_of-u.ensures) (upper_row _ pre.0 pre.1) in
+    let low : Row 2 c.layout_of-l.result =
+      let pre = c.requires in subst (Row 2) (sym c.layout_of-l.ensures) (lower_row _ pre.0 pre.1) in
+    let laid2 = c.before.before.before.before in
     let laid = laid2.before in
     let s = c.args.line.now in
     let u = high laid in

@@ -7,25 +7,30 @@ use Rattle.sector_table.specs.declared.layout.Layout.{Layout}
 use Rattle.sector_check.specs.Sector.{pixels_of}
 use Rattle.report_record.specs.Report.{channel_of}
 use Rattle.report_line.proofs.Sectors.{Row, last_row, row_inside, row_places, row_pixels, given_none, given_some}
-use Rattle.report_line.proofs.wide_channel.Tie as tie
 use Rattle.report_line.proofs.wide_channel.Goals as goal
-
-knows : (c : tie.After-layout_of) → Row 10 c.layout_of-l.result
-knows c = subst (Row 10) (sym c.layout_of-l.ensures) last_row
 
 pub returns-then-last-ne1 : goal.returns-then-last-ne1
 returns-then-last-ne1 c = c.no_pixels.ensures ∙ given_none _ _ (ne_eqb _ _ c.if-last-ne1.true)
 
 pub overflow_add-l : goal.overflow_add-l
-overflow_add-l c = let r = knows c.before.before in omega (arith, row_places 10 _ r)
+overflow_add-l c =
+    let knows : Row 10 c.layout_of-l.result =
+      subst (Row 10) (sym c.layout_of-l.ensures) last_row in
+    let r = knows in omega (arith, row_places 10 _ r)
 
 pub wide_run-requires : goal.wide_run-requires
-wide_run-requires c = let r = knows c.before.before in
+wide_run-requires c =
+    let knows : Row 10 c.layout_of-l.result =
+      subst (Row 10) (sym c.layout_of-l.ensures) last_row in
+    let r = knows in
     let long = c.requires in
     (omega (arith, r.many, row_inside 10 _ _ r long), omega (arith, r.many, row_places 10 _ r), omega (arith, r.many), omega (arith, r.many))
 
 pub returns : goal.returns
-returns c = let laid = c.before.before.before in
+returns c =
+    let knows : Row 10 c.layout_of-l.result =
+      subst (Row 10) (sym c.layout_of-l.ensures) last_row in
+    let laid = c.before.before.before in
     c.wide_run.ensures
     ∙ ap channel_of (row_pixels 10 c.layout_of-l.result c.args.line.now (knows laid) c.requires _ refl ∙ ap (λ (l : Layout). pixels_of l (bits_of c.args.line.now)) c.layout_of-l.ensures)
     ∙ given_some _ _ (eq-eqb _ _ c.if-last-ne1.false)

@@ -4,22 +4,21 @@ use Rattle.bits.specs.Bits.{bits_of, part}
 use Rattle.crc_step.specs.Remainder.{remainder_of}
 use Rattle.sector_check.specs.Sector.{covered_of}
 use Rattle.sector_check.proofs.Answers.{answer-five, answer-six, answer-none, id_part}
-use Rattle.sector_check.proofs.answer.Tie as tie
 use Rattle.sector_check.proofs.answer.Goals as goal
 
--- the remainder over ID, data and check
-read : (c : tie.After-remainder) → let a = c.args in
-    c.remainder.result ≡ remainder_of a.start (covered_of a.l (bits_of a.line.now))
-unfolding part covered_of
-read c = c.remainder.ensures
-
 pub returns-then-remainder-ne0 : goal.returns-then-remainder-ne0
+unfolding covered_of part
 returns-then-remainder-ne0 c =
+    let read : let a = c.args in c.remainder.result ≡ remainder_of a.start (covered_of a.l (bits_of a.line.now)) =
+      c.remainder.ensures in
     let a = c.args in
-    answer-five a.start a.l (bits_of a.line.now) (λ z. c.if-remainder-ne0.true (read c.before.before ∙ z))
+    answer-five a.start a.l (bits_of a.line.now) (λ z. c.if-remainder-ne0.true (read ∙ z))
 
 pub returns-then-field-l : goal.returns-then-field-l
+unfolding covered_of part
 returns-then-field-l c =
+    let read : let a = c.args in c.remainder.result ≡ remainder_of a.start (covered_of a.l (bits_of a.line.now)) =
+      c.remainder.ensures in
     let first = c.before.before.before.before in
     let a = c.args in
     answer-six a.start a.l (bits_of a.line.now)
@@ -27,7 +26,10 @@ returns-then-field-l c =
     (λ z. c.if-field-l.true (c.field.ensures.0 ∙ id_part a.l a.line.now ∙ z))
 
 pub returns : goal.returns
+unfolding covered_of part
 returns c =
+    let read : let a = c.args in c.remainder.result ≡ remainder_of a.start (covered_of a.l (bits_of a.line.now)) =
+      c.remainder.ensures in
     let first = c.before.before.before.before in
     let a = c.args in
     answer-none a.start a.l (bits_of a.line.now)

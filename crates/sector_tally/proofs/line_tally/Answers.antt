@@ -8,17 +8,19 @@ use Rattle.sector_table.specs.Layout.{Sound}
 use Rattle.sector_check.specs.Sector.{answer_of, filler_of}
 use Rattle.sector_table.proofs.Table.{sound}
 use Rattle.sector_tally.proofs.Told.{answer_three, tally_one}
-use Rattle.sector_tally.proofs.line_tally.Tie as tie
 use Rattle.sector_tally.proofs.line_tally.Goals as goal
 
-knows : (c : tie.After-layout_of) → Sound c.layout_of-l.result
-knows c = subst Sound (sym c.layout_of-l.ensures) (sound _ c.requires.0 c.requires.1)
-
 pub answer-said-requires : goal.answer-said-requires
-answer-said-requires c = (knows c.before, c.requires.2)
+answer-said-requires c =
+    let knows : Sound c.layout_of-l.result =
+      subst Sound (sym c.layout_of-l.ensures) (sound _ c.requires.0 c.requires.1) in
+    (knows, c.requires.2)
 
 pub count_filler-requires : goal.count_filler-requires
-count_filler-requires c = (knows c.before.before, c.requires.2)
+count_filler-requires c =
+    let knows : Sound c.layout_of-l.result =
+      subst Sound (sym c.layout_of-l.ensures) (sound _ c.requires.0 c.requires.1) in
+    (knows, c.requires.2)
 
 pub tally-requires : goal.tally-requires
 tally-requires c =

@@ -13,24 +13,15 @@ use Rattle.segments.proofs.Settled.{added_kind, added-told}
 use Rattle.segments.proofs.add_segment.Tie as tie
 use Rattle.segments.proofs.add_segment.Goals as goal
 
--- the arm of a segment: nothing refuses the line before its bytes are compared, and the segment is that of byte 194
-is_carried : (c : tie.After-segment) → let a = c.args in
-    carried_refusal a.format a.assembly.marks a.line.now a.number (length a.block.now) ≡ 0
-is_carried c = sym c.carried.ensures.0 ∙ ap sub_number c.in-Is.is
-
-is-segment : (c : tie.After-segment) → let a = c.args in c.in-Is.segment ≡ segment_in a.line.now
-is-segment c = ap sub_segment (sym c.in-Is.is) ∙ ap (λ (v : ℕ × ℕ). v.0) (c.carried.ensures.1 ∙ kept_none _ _ _ (is_carried c))
-
--- the other arm: what refuses it
-is-refused : (c : tie.After-k) → let a = c.args in
-    c.in-Refused.k ≡ carried_refusal a.format a.assembly.marks a.line.now a.number (length a.block.now)
-is-refused c = ap sub_number (sym c.in-Refused.is) ∙ c.carried.ensures.0
-
 some : (c : tie.After-k) → c.in-Refused.k ≡ 0 → ⊥
 some c z = c.carried.ensures.2 (c.in-Refused.is ∙ ap Refused z)
 
 pub place-requires : goal.place-requires
 place-requires c =
+    let is_carried : let a = c.args in carried_refusal a.format a.assembly.marks a.line.now a.number (length a.block.now) ≡ 0 =
+      sym c.carried.ensures.0 ∙ ap sub_number c.in-Is.is in
+    let is-segment : let a = c.args in c.in-Is.segment ≡ segment_in a.line.now =
+      ap sub_segment (sym c.in-Is.is) ∙ ap (λ (v : ℕ × ℕ). v.0) (c.carried.ensures.1 ∙ kept_none _ _ _ is_carried) in
     let found = c.before.before.before in
     let a = c.args in
     let h = carries a.format a.assembly.marks a.line.now a.number (length a.block.now) (is_carried found) in
@@ -38,6 +29,10 @@ place-requires c =
 
 pub returns-in-Is : goal.returns-in-Is
 returns-in-Is c =
+    let is_carried : let a = c.args in carried_refusal a.format a.assembly.marks a.line.now a.number (length a.block.now) ≡ 0 =
+      sym c.carried.ensures.0 ∙ ap sub_number c.in-Is.is in
+    let is-segment : let a = c.args in c.in-Is.segment ≡ segment_in a.line.now =
+      ap sub_segment (sym c.in-Is.is) ∙ ap (λ (v : ℕ × ℕ). v.0) (c.carried.ensures.1 ∙ kept_none _ _ _ is_carried) in
     let found = c.before.before.before.before.before.before in
     let a = c.args in
     added-told a.format a.assembly a.line.now a.number a.block.now (is_carried found) _ (is-segment found) _ _ c.place.ensures
@@ -45,6 +40,8 @@ returns-in-Is c =
 pub returns-in-Refused : goal.returns-in-Refused
 unfolding add_segment_refusal add_segment_left
 returns-in-Refused c =
+    let is-refused : let a = c.args in c.in-Refused.k ≡ carried_refusal a.format a.assembly.marks a.line.now a.number (length a.block.now) =
+      ap sub_number (sym c.in-Refused.is) ∙ c.carried.ensures.0 in
     let found = c.before.before in
     let a = c.args in
     let e = refused _ _ _ (is-refused found) (some found) in

@@ -5,24 +5,7 @@ use Rattle.blocks.specs.declared.assembly.Revisions.{Revisions}
 use Rattle.revisions.specs.Carried.{revisions_in, remembered}
 use Rattle.copies.specs.Copies.{Placeable, place_refusal}
 use Rattle.segments.proofs.Known.{placed-refused, placed-again, placed-new}
-use Rattle.segments.proofs.place.Tie as tie
 use Rattle.segments.proofs.place.Goals as goal
-
--- the refusal is that of the numbers that the line carries
-refusal : (c : tie.After-place_refusal) → let a = c.args in
-    c.place_refusal-refused.result ≡ place_refusal a.number a.assembly (revisions_in a.line.now) a.line.now a.segment a.block.now
-refusal c =
-    let a = c.args in
-    c.place_refusal-refused.ensures
-    ∙ ap (λ (r : Revisions). place_refusal a.number a.assembly r a.line.now a.segment a.block.now) c.revisions_in-carried.ensures
-
--- and so are the numbers that the assembly remembers
-from-now-on : (c : tie.After-remembered) → let a = c.args in
-    c.remembered-revisions.result ≡ remembered a.assembly (revisions_in a.line.now)
-from-now-on c =
-    let a = c.args in
-    let told : c.remembered-revisions.result ≡ remembered a.assembly c.revisions_in-carried.result = c.remembered-revisions.ensures in
-    told ∙ ap (remembered a.assembly) c.revisions_in-carried.ensures
 
 pub revisions_in-carried-requires : goal.revisions_in-carried-requires
 revisions_in-carried-requires c = c.requires.long
@@ -31,13 +14,26 @@ pub place_refusal-refused-requires : goal.place_refusal-refused-requires
 place_refusal-refused-requires c = c.requires
 
 pub returns-then-refused-ne0 : goal.returns-then-refused-ne0
-returns-then-refused-ne0 c = placed-refused _ _ _ _ _ _ (refusal c.before.before) c.if-refused-ne0.true
+returns-then-refused-ne0 c =
+    let refusal : let a = c.args in c.place_refusal-refused.result ≡ place_refusal a.number a.assembly (revisions_in a.line.now) a.line.now a.segment a.block.now =
+      let a = c.args in
+      c.place_refusal-refused.ensures
+      ∙ ap (λ (r : Revisions). place_refusal a.number a.assembly r a.line.now a.segment a.block.now) c.revisions_in-carried.ensures in
+    placed-refused _ _ _ _ _ _ refusal c.if-refused-ne0.true
 
 pub is_marked-requires : goal.is_marked-requires
 is_marked-requires c = c.requires.small
 
 pub returns-then-is_marked : goal.returns-then-is_marked
 returns-then-is_marked c =
+    let refusal : let a = c.args in c.place_refusal-refused.result ≡ place_refusal a.number a.assembly (revisions_in a.line.now) a.line.now a.segment a.block.now =
+      let a = c.args in
+      c.place_refusal-refused.ensures
+      ∙ ap (λ (r : Revisions). place_refusal a.number a.assembly r a.line.now a.segment a.block.now) c.revisions_in-carried.ensures in
+    let from-now-on : let a = c.args in c.remembered-revisions.result ≡ remembered a.assembly (revisions_in a.line.now) =
+      let a = c.args in
+      let told : c.remembered-revisions.result ≡ remembered a.assembly c.revisions_in-carried.result = c.remembered-revisions.ensures in
+      told ∙ ap (remembered a.assembly) c.revisions_in-carried.ensures in
     let known = c.before.before.before.before in
     placed-again _ _ _ _ _ _ (refusal known.before.before) _ c.if-refused-ne0.false (sym c.is_marked.ensures ∙ c.if-is_marked.true) (from-now-on known)
 
@@ -51,5 +47,13 @@ with_mark-requires c = c.requires.small
 
 pub returns : goal.returns
 returns c =
+    let refusal : let a = c.args in c.place_refusal-refused.result ≡ place_refusal a.number a.assembly (revisions_in a.line.now) a.line.now a.segment a.block.now =
+      let a = c.args in
+      c.place_refusal-refused.ensures
+      ∙ ap (λ (r : Revisions). place_refusal a.number a.assembly r a.line.now a.segment a.block.now) c.revisions_in-carried.ensures in
+    let from-now-on : let a = c.args in c.remembered-revisions.result ≡ remembered a.assembly (revisions_in a.line.now) =
+      let a = c.args in
+      let told : c.remembered-revisions.result ≡ remembered a.assembly c.revisions_in-carried.result = c.remembered-revisions.ensures in
+      told ∙ ap (remembered a.assembly) c.revisions_in-carried.ensures in
     let known = c.before.before.before.before.before.before.before.before.before.before in
     placed-new _ _ _ _ _ _ (refusal known.before.before) _ _ _ _ c.if-refused-ne0.false (sym c.is_marked.ensures ∙ c.if-is_marked.false) (from-now-on known) c.with_mark.ensures c.store.ensures c.block_of.ensures

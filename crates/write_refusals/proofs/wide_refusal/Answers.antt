@@ -10,22 +10,23 @@ use Rattle.sector_table.proofs.Admitted.{served}
 use Rattle.sector_table.proofs.Table.{sound}
 use Rattle.write_refusals.specs.Refusing.{put_pixels_answer}
 use Rattle.write_refusals.proofs.Writable.{row-chain}
-use Rattle.write_refusals.proofs.wide_refusal.Tie as tie
 use Rattle.write_refusals.proofs.wide_refusal.Goals as goal
-
-serves : (c : tie.Else1) → Inside 12 12 c.args.sector
-serves c = served _ _ _ _ (sym c.asked-refused.ensures ∙ c.if-refused-ne0.false)
 
 pub returns-then-refused-ne0 : goal.returns-then-refused-ne0
 unfolding put_pixels_answer
 returns-then-refused-ne0 c = refused _ _ _ c.asked-refused.ensures c.if-refused-ne0.true
 
 pub layout_of-l-requires : goal.layout_of-l-requires
-layout_of-l-requires c = let h = serves c.before in (omega (arith, h.low), omega (arith, h.high))
+layout_of-l-requires c =
+    let serves : Inside 12 12 c.args.sector =
+      served _ _ _ _ (sym c.asked-refused.ensures ∙ c.if-refused-ne0.false) in
+    let h = serves in (omega (arith, h.low), omega (arith, h.high))
 
 pub limit_of-requires : goal.limit_of-requires
 limit_of-requires c =
-    let h = serves c.before.before in
+    let serves : Inside 12 12 c.args.sector =
+      served _ _ _ _ (sym c.asked-refused.ensures ∙ c.if-refused-ne0.false) in
+    let h = serves in
     let n = c.args.sector in
     subst (λ (l : Layout). l.width ≤ 16) (sym c.layout_of-l.ensures) (sound n (omega (arith, h.low)) (omega (arith, h.high))).narrow
 

@@ -16,37 +16,50 @@ use Rattle.sector_check.proofs.Pairs.{upper_wide, lower_wide, as_many}
 use Rattle.pixel_refusals.proofs.Readable.{Readable, readable_more}
 use Rattle.channel_refusals.specs.Refusing.{joined_answer}
 use Rattle.channels.specs.Join.{joined_left}
-use Rattle.channels.proofs.join.joined.Tie as tie
 use Rattle.channels.proofs.join.joined.Goals as goal
 
 -- what `join` asks of its sectors, of the line's length and of the output's
 abbrev Asked : Layout → Layout → ℕ → ℕ → Type 0
 Asked u l len room = Sound u × Sound l × (u.width ≡ 8) × (l.width ≡ 2) × (l.count ≡ u.count) × (line_bytes ≤ len) × (u.count ≤ room)
 
-knows : (c : tie.Else1) → let a = c.args in
-    Readable 1 3 a.channel (length a.line.now) (check_start a.format) (upper_of a.channel) (bits_of a.line.now) (length a.out.now) (upper_of a.channel).count
-unfolding joined_answer
-knows c = readable_more c.args.format 1 3 _ _ _ _ _ _ _ _ (sym c.joined_refusal-refused.ensures ∙ c.if-refused-ne0.false)
-
 pub returns-then-refused-ne0 : goal.returns-then-refused-ne0
 unfolding joined_left
 returns-then-refused-ne0 c = turned_away _ _ _ _ c.joined_refusal-refused.ensures c.if-refused-ne0.true
 
 pub overflow_add-channel : goal.overflow_add-channel
-overflow_add-channel c = let h = knows c.before in search rules
+unfolding joined_answer
+overflow_add-channel c =
+    let knows : let a = c.args in Readable 1 3 a.channel (length a.line.now) (check_start a.format) (upper_of a.channel) (bits_of a.line.now) (length a.out.now) (upper_of a.channel).count =
+      readable_more c.args.format 1 3 _ _ _ _ _ _ _ _ (sym c.joined_refusal-refused.ensures ∙ c.if-refused-ne0.false) in
+    let h = knows in search rules
 
 pub layout_of-requires : goal.layout_of-requires
-layout_of-requires c = let h = knows c.before in (omega arith, omega (arith, h.high))
+unfolding joined_answer
+layout_of-requires c =
+    let knows : let a = c.args in Readable 1 3 a.channel (length a.line.now) (check_start a.format) (upper_of a.channel) (bits_of a.line.now) (length a.out.now) (upper_of a.channel).count =
+      readable_more c.args.format 1 3 _ _ _ _ _ _ _ _ (sym c.joined_refusal-refused.ensures ∙ c.if-refused-ne0.false) in
+    let h = knows in (omega arith, omega (arith, h.high))
 
 pub overflow_add-channel-2 : goal.overflow_add-channel-2
-overflow_add-channel-2 c = let h = knows c.before.before in search rules
+unfolding joined_answer
+overflow_add-channel-2 c =
+    let knows : let a = c.args in Readable 1 3 a.channel (length a.line.now) (check_start a.format) (upper_of a.channel) (bits_of a.line.now) (length a.out.now) (upper_of a.channel).count =
+      readable_more c.args.format 1 3 _ _ _ _ _ _ _ _ (sym c.joined_refusal-refused.ensures ∙ c.if-refused-ne0.false) in
+    let h = knows in search rules
 
 pub layout_of-requires-2 : goal.layout_of-requires-2
-layout_of-requires-2 c = let h = knows c.before.before in (omega arith, omega (arith, h.high))
+unfolding joined_answer
+layout_of-requires-2 c =
+    let knows : let a = c.args in Readable 1 3 a.channel (length a.line.now) (check_start a.format) (upper_of a.channel) (bits_of a.line.now) (length a.out.now) (upper_of a.channel).count =
+      readable_more c.args.format 1 3 _ _ _ _ _ _ _ _ (sym c.joined_refusal-refused.ensures ∙ c.if-refused-ne0.false) in
+    let h = knows in (omega arith, omega (arith, h.high))
 
 pub join-requires : goal.join-requires
+unfolding joined_answer
 join-requires c =
-    let h = knows c.before.before.before.before in
+    let knows : let a = c.args in Readable 1 3 a.channel (length a.line.now) (check_start a.format) (upper_of a.channel) (bits_of a.line.now) (length a.out.now) (upper_of a.channel).count =
+      readable_more c.args.format 1 3 _ _ _ _ _ _ _ _ (sym c.joined_refusal-refused.ensures ∙ c.if-refused-ne0.false) in
+    let h = knows in
     let a = c.args in
     let n = a.channel in
     let up : Sound (upper_of n) = sound (n + 1) (omega arith) (omega (arith, h.high)) in

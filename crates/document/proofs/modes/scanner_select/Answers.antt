@@ -8,17 +8,16 @@ use Rattle.formats.specs.Formats.{line_bytes}
 use Rattle.document.specs.Modes.{mirror_of}
 use Rattle.document.proofs.Known.{doc_long}
 use Rattle.document.proofs.Settled.{scanner_kind, scanner-select-told}
-use Rattle.document.proofs.modes.scanner_select.Tie as tie
 use Rattle.document.proofs.modes.scanner_select.Goals as goal
-
-long : (c : tie.Else1) → line_bytes ≤ length c.args.line.now
-long c = doc_long _ _ (sym c.doc_refusal-refused.ensures ∙ c.if-refused-ne0.false)
 
 pub returns-then-refused-ne0 : goal.returns-then-refused-ne0
 returns-then-refused-ne0 c = scanner-select-told _ _ _ (says_some scanner_kind _ _ _ c.doc_refusal-refused.ensures c.if-refused-ne0.true)
 
 pub doc_byte-requires : goal.doc_byte-requires
-doc_byte-requires c = let h = long c.before in search rules
+doc_byte-requires c =
+    let long : line_bytes ≤ length c.args.line.now =
+      doc_long _ _ (sym c.doc_refusal-refused.ensures ∙ c.if-refused-ne0.false) in
+    let h = long in search rules
 
 pub returns : goal.returns
 returns c =

@@ -11,51 +11,71 @@ use Rattle.sector_table.specs.Place.{doc_part}
 use Rattle.document.proofs.Known.{doc_long}
 use Rattle.document_stamps.specs.Dates.{date_refusal}
 use Rattle.document_stamps.proofs.Settled.{dated_kind}
-use Rattle.document_stamps.proofs.dates.date.Tie as tie
 use Rattle.document_stamps.proofs.dates.date.Goals as goal
-
-long : (c : tie.Else1) → line_bytes ≤ length c.args.line.now
-long c = doc_long _ _ (sym c.doc_refusal-refused.ensures ∙ c.if-refused-ne0.false)
-
--- what the tests of the eight bytes give is what the call gives
-tested : (c : tie.After-date_refusal) → let a = c.args in c.date_refusal-wrong.result ≡ date_refusal a.format a.line.now
-unfolding date_refusal doc_part stretch
-tested c =
-    passed _ _ _ _ c.doc_refusal-refused.ensures c.if-refused-ne0.false c.date_refusal-wrong.ensures
 
 pub returns-then-refused-ne0 : goal.returns-then-refused-ne0
 unfolding date_refusal
 returns-then-refused-ne0 c = says_some dated_kind _ _ _ (refused _ _ _ c.doc_refusal-refused.ensures c.if-refused-ne0.true) c.if-refused-ne0.true
 
 pub slice_bounds-date_refusal-count : goal.slice_bounds-date_refusal-count
-slice_bounds-date_refusal-count c = let h = long c.before in search rules
+slice_bounds-date_refusal-count c =
+    let long : line_bytes ≤ length c.args.line.now =
+      doc_long _ _ (sym c.doc_refusal-refused.ensures ∙ c.if-refused-ne0.false) in
+    let h = long in search rules
 
 pub slice_bounds-date_refusal-start : goal.slice_bounds-date_refusal-start
-slice_bounds-date_refusal-start c = let h = long c.before in search rules
+slice_bounds-date_refusal-start c =
+    let long : line_bytes ≤ length c.args.line.now =
+      doc_long _ _ (sym c.doc_refusal-refused.ensures ∙ c.if-refused-ne0.false) in
+    let h = long in search rules
 
 pub slice_bounds-date_refusal-end : goal.slice_bounds-date_refusal-end
-slice_bounds-date_refusal-end c = let h = long c.before in search rules
+slice_bounds-date_refusal-end c =
+    let long : line_bytes ≤ length c.args.line.now =
+      doc_long _ _ (sym c.doc_refusal-refused.ensures ∙ c.if-refused-ne0.false) in
+    let h = long in search rules
 
 pub date_refusal-wrong-requires : goal.date_refusal-wrong-requires
-date_refusal-wrong-requires c = let h = long c.before.before in search rules
+date_refusal-wrong-requires c =
+    let long : line_bytes ≤ length c.args.line.now =
+      doc_long _ _ (sym c.doc_refusal-refused.ensures ∙ c.if-refused-ne0.false) in
+    let h = long in search rules
 
 pub returns-then-wrong-ne0 : goal.returns-then-wrong-ne0
-returns-then-wrong-ne0 c = says_some dated_kind _ _ _ (tested c.before.before) c.if-wrong-ne0.true
+unfolding date_refusal doc_part stretch
+returns-then-wrong-ne0 c =
+    let tested : let a = c.args in c.date_refusal-wrong.result ≡ date_refusal a.format a.line.now =
+      passed _ _ _ _ c.doc_refusal-refused.ensures c.if-refused-ne0.false c.date_refusal-wrong.ensures in
+    says_some dated_kind _ _ _ tested c.if-wrong-ne0.true
 
 pub slice_bounds-date_in-count : goal.slice_bounds-date_in-count
-slice_bounds-date_in-count c = let h = long c.before.before.before.before in search rules
+slice_bounds-date_in-count c =
+    let long : line_bytes ≤ length c.args.line.now =
+      doc_long _ _ (sym c.doc_refusal-refused.ensures ∙ c.if-refused-ne0.false) in
+    let h = long in search rules
 
 pub slice_bounds-date_in-start : goal.slice_bounds-date_in-start
-slice_bounds-date_in-start c = let h = long c.before.before.before.before in search rules
+slice_bounds-date_in-start c =
+    let long : line_bytes ≤ length c.args.line.now =
+      doc_long _ _ (sym c.doc_refusal-refused.ensures ∙ c.if-refused-ne0.false) in
+    let h = long in search rules
 
 pub slice_bounds-date_in-end : goal.slice_bounds-date_in-end
-slice_bounds-date_in-end c = let h = long c.before.before.before.before in search rules
+slice_bounds-date_in-end c =
+    let long : line_bytes ≤ length c.args.line.now =
+      doc_long _ _ (sym c.doc_refusal-refused.ensures ∙ c.if-refused-ne0.false) in
+    let h = long in search rules
 
 pub date_in-requires : goal.date_in-requires
-date_in-requires c = let h = long c.before.before.before.before.before in search rules
+date_in-requires c =
+    let long : line_bytes ≤ length c.args.line.now =
+      doc_long _ _ (sym c.doc_refusal-refused.ensures ∙ c.if-refused-ne0.false) in
+    let h = long in search rules
 
 pub returns : goal.returns
-unfolding doc_part stretch
+unfolding doc_part stretch date_refusal
 returns c =
+    let tested : let a = c.args in c.date_refusal-wrong.result ≡ date_refusal a.format a.line.now =
+      passed _ _ _ _ c.doc_refusal-refused.ensures c.if-refused-ne0.false c.date_refusal-wrong.ensures in
     let passed = c.before.before.before in
     says_none dated_kind _ _ _ _ (tested passed.before) c.if-wrong-ne0.false c.date_in.ensures

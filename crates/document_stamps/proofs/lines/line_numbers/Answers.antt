@@ -8,29 +8,34 @@ use Rattle.formats.specs.Formats.{line_bytes}
 use Rattle.document.proofs.Known.{doc_long}
 use Rattle.document_stamps.specs.Lines.{line_numbers_refusal}
 use Rattle.document_stamps.proofs.Settled.{numbered_kind}
-use Rattle.document_stamps.proofs.lines.line_numbers.Tie as tie
 use Rattle.document_stamps.proofs.lines.line_numbers.Goals as goal
-
-long : (c : tie.Else1) → line_bytes ≤ length c.args.line.now
-long c = doc_long _ _ (sym c.doc_refusal-refused.ensures ∙ c.if-refused-ne0.false)
-
--- what the tests of the numbers give is what the call gives
-tested : (c : tie.After-counts_refusal) → let a = c.args in c.counts_refusal-wrong.result ≡ line_numbers_refusal a.format a.line.now
-unfolding line_numbers_refusal
-tested c = passed _ _ _ _ c.doc_refusal-refused.ensures c.if-refused-ne0.false c.counts_refusal-wrong.ensures
 
 pub returns-then-refused-ne0 : goal.returns-then-refused-ne0
 unfolding line_numbers_refusal
 returns-then-refused-ne0 c = says_some numbered_kind _ _ _ (refused _ _ _ c.doc_refusal-refused.ensures c.if-refused-ne0.true) c.if-refused-ne0.true
 
 pub counts_refusal-wrong-requires : goal.counts_refusal-wrong-requires
-counts_refusal-wrong-requires c = long c.before
+counts_refusal-wrong-requires c =
+    let long : line_bytes ≤ length c.args.line.now =
+      doc_long _ _ (sym c.doc_refusal-refused.ensures ∙ c.if-refused-ne0.false) in
+    long
 
 pub returns-then-wrong-ne0 : goal.returns-then-wrong-ne0
-returns-then-wrong-ne0 c = says_some numbered_kind _ _ _ (tested c.before.before) c.if-wrong-ne0.true
+unfolding line_numbers_refusal
+returns-then-wrong-ne0 c =
+    let tested : let a = c.args in c.counts_refusal-wrong.result ≡ line_numbers_refusal a.format a.line.now =
+      passed _ _ _ _ c.doc_refusal-refused.ensures c.if-refused-ne0.false c.counts_refusal-wrong.ensures in
+    says_some numbered_kind _ _ _ tested c.if-wrong-ne0.true
 
 pub lines_in-requires : goal.lines_in-requires
-lines_in-requires c = long c.before.before.before
+lines_in-requires c =
+    let long : line_bytes ≤ length c.args.line.now =
+      doc_long _ _ (sym c.doc_refusal-refused.ensures ∙ c.if-refused-ne0.false) in
+    long
 
 pub returns : goal.returns
-returns c = says_none numbered_kind _ _ _ _ (tested c.before.before.before) c.if-wrong-ne0.false c.lines_in.ensures
+unfolding line_numbers_refusal
+returns c =
+    let tested : let a = c.args in c.counts_refusal-wrong.result ≡ line_numbers_refusal a.format a.line.now =
+      passed _ _ _ _ c.doc_refusal-refused.ensures c.if-refused-ne0.false c.counts_refusal-wrong.ensures in
+    says_none numbered_kind _ _ _ _ tested c.if-wrong-ne0.false c.lines_in.ensures

@@ -11,22 +11,23 @@ use Rattle.sector_table.proofs.Table.{sound}
 use Rattle.pixel_refusals.specs.Refusing.{data_answer}
 use Rattle.pixels.specs.Calls.{data_left}
 use Rattle.pixel_refusals.proofs.Readable.{data_readable, ready}
-use Rattle.pixels.proofs.values.data.Tie as tie
 use Rattle.pixels.proofs.values.data.Goals as goal
-
-none : (c : tie.Else1) → let a = c.args in data_answer a.format a.line.now a.sector (length a.out.now) ≡ 0
-none c = sym c.data_refusal-refused.ensures ∙ c.if-refused-ne0.false
 
 pub returns-then-refused-ne0 : goal.returns-then-refused-ne0
 unfolding data_left
 returns-then-refused-ne0 c = turned_away _ _ _ _ c.data_refusal-refused.ensures c.if-refused-ne0.true
 
 pub layout_of-requires : goal.layout_of-requires
-layout_of-requires c = let h = data_readable _ _ _ _ (none c.before) in (h.low, h.high)
+layout_of-requires c =
+    let none : let a = c.args in data_answer a.format a.line.now a.sector (length a.out.now) ≡ 0 =
+      sym c.data_refusal-refused.ensures ∙ c.if-refused-ne0.false in
+    let h = data_readable _ _ _ _ none in (h.low, h.high)
 
 pub unpack_data-requires : goal.unpack_data-requires
 unpack_data-requires c =
-    let h = data_readable _ _ _ _ (none c.before.before.before) in
+    let none : let a = c.args in data_answer a.format a.line.now a.sector (length a.out.now) ≡ 0 =
+      sym c.data_refusal-refused.ensures ∙ c.if-refused-ne0.false in
+    let h = data_readable _ _ _ _ none in
     ready (λ (l : Layout). bytes_of l) h c.layout_of.ensures (sound _ h.low h.high)
 
 pub returns : goal.returns

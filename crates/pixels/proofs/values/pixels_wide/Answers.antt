@@ -11,22 +11,23 @@ use Rattle.sector_table.proofs.Table.{sound}
 use Rattle.pixel_refusals.specs.Refusing.{pixels_answer}
 use Rattle.pixels.specs.Calls.{pixels_left}
 use Rattle.pixel_refusals.proofs.Readable.{pixels_readable, ready}
-use Rattle.pixels.proofs.values.pixels_wide.Tie as tie
 use Rattle.pixels.proofs.values.pixels_wide.Goals as goal
-
-none : (c : tie.Else1) → let a = c.args in pixels_answer 12 12 a.format a.line.now a.sector (length a.out.now) ≡ 0
-none c = sym c.pixels_refusal-refused.ensures ∙ c.if-refused-ne0.false
 
 pub returns-then-refused-ne0 : goal.returns-then-refused-ne0
 unfolding pixels_left
 returns-then-refused-ne0 c = turned_away _ _ _ _ c.pixels_refusal-refused.ensures c.if-refused-ne0.true
 
 pub layout_of-requires : goal.layout_of-requires
-layout_of-requires c = let h = pixels_readable _ _ _ _ _ _ (none c.before) in (omega (arith, h.low), omega (arith, h.high))
+layout_of-requires c =
+    let none : let a = c.args in pixels_answer 12 12 a.format a.line.now a.sector (length a.out.now) ≡ 0 =
+      sym c.pixels_refusal-refused.ensures ∙ c.if-refused-ne0.false in
+    let h = pixels_readable _ _ _ _ _ _ none in (omega (arith, h.low), omega (arith, h.high))
 
 pub unpack_pixels_wide-requires : goal.unpack_pixels_wide-requires
 unpack_pixels_wide-requires c =
-    let h = pixels_readable _ _ _ _ _ _ (none c.before.before.before) in
+    let none : let a = c.args in pixels_answer 12 12 a.format a.line.now a.sector (length a.out.now) ≡ 0 =
+      sym c.pixels_refusal-refused.ensures ∙ c.if-refused-ne0.false in
+    let h = pixels_readable _ _ _ _ _ _ none in
     let found = c.layout_of.ensures in
     ready (λ (l : Layout). l.count) h found (sound _ (omega (arith, h.low)) (omega (arith, h.high)))
 

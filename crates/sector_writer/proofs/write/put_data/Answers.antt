@@ -10,21 +10,23 @@ use Rattle.sector_table.specs.Layout.{layout_of, bytes_of}
 use Rattle.sector_frame.specs.Written.{sector_written, data_written}
 use Rattle.sector_writer.specs.Calls.{put_data_left}
 use Rattle.write_refusals.proofs.Writable.{Writable, data_writable, ready}
-use Rattle.sector_writer.proofs.write.put_data.Tie as tie
 use Rattle.sector_writer.proofs.write.put_data.Goals as goal
-
-knows : (c : tie.Else1) → let a = c.args in Writable 1 12 a.sector (length a.line.now) (length a.bytes.now) (bytes_of (layout_of a.sector))
-knows c = data_writable _ _ _ _ (sym c.data_refusal-refused.ensures ∙ c.if-refused-ne0.false)
 
 pub returns-then-refused-ne0 : goal.returns-then-refused-ne0
 unfolding put_data_left
 returns-then-refused-ne0 c = turned_away _ _ _ _ c.data_refusal-refused.ensures c.if-refused-ne0.true
 
 pub layout_of-requires : goal.layout_of-requires
-layout_of-requires c = let h = knows c.before.before in (omega (arith, h.low), omega (arith, h.high))
+layout_of-requires c =
+    let knows : let a = c.args in Writable 1 12 a.sector (length a.line.now) (length a.bytes.now) (bytes_of (layout_of a.sector)) =
+      data_writable _ _ _ _ (sym c.data_refusal-refused.ensures ∙ c.if-refused-ne0.false) in
+    let h = knows in (omega (arith, h.low), omega (arith, h.high))
 
 pub write_bytes-requires : goal.write_bytes-requires
-write_bytes-requires c = ready _ c.layout_of.ensures (λ (l : Layout). bytes_of l) (omega arith) (omega arith) (knows c.before.before.before.before)
+write_bytes-requires c =
+    let knows : let a = c.args in Writable 1 12 a.sector (length a.line.now) (length a.bytes.now) (bytes_of (layout_of a.sector)) =
+      data_writable _ _ _ _ (sym c.data_refusal-refused.ensures ∙ c.if-refused-ne0.false) in
+    ready _ c.layout_of.ensures (λ (l : Layout). bytes_of l) (omega arith) (omega arith) knows
 
 pub returns : goal.returns
 unfolding put_data_left

@@ -10,11 +10,7 @@ use Rattle.sector_check.specs.Sector.{answer_of}
 use Rattle.sectors.specs.Calls.{accepted_answer}
 use Rattle.sector_table.proofs.Admitted.{Admitted, admitted}
 use Rattle.sector_table.proofs.Table.{sound}
-use Rattle.sectors.proofs.check.accepted.Tie as tie
 use Rattle.sectors.proofs.check.accepted.Goals as goal
-
-admit : (c : tie.Else1) → Admitted 1 12 c.args.sector (length c.args.line.now)
-admit c = admitted _ _ _ _ _ (sym c.line_refusal-refused.ensures ∙ c.if-refused-ne0.false)
 
 pub returns-then-refused-ne0 : goal.returns-then-refused-ne0
 unfolding accepted_answer
@@ -22,11 +18,15 @@ returns-then-refused-ne0 c = refused _ _ _ c.line_refusal-refused.ensures c.if-r
 
 pub layout_of-requires : goal.layout_of-requires
 layout_of-requires c =
-    let h = admit c.before.before in (h.low, h.high)
+    let admit : Admitted 1 12 c.args.sector (length c.args.line.now) =
+      admitted _ _ _ _ _ (sym c.line_refusal-refused.ensures ∙ c.if-refused-ne0.false) in
+    let h = admit in (h.low, h.high)
 
 pub answer-requires : goal.answer-requires
 answer-requires c =
-    let h = admit c.before.before.before in (subst Sound (sym c.layout_of.ensures) (sound _ h.low h.high), h.long)
+    let admit : Admitted 1 12 c.args.sector (length c.args.line.now) =
+      admitted _ _ _ _ _ (sym c.line_refusal-refused.ensures ∙ c.if-refused-ne0.false) in
+    let h = admit in (subst Sound (sym c.layout_of.ensures) (sound _ h.low h.high), h.long)
 
 pub returns : goal.returns
 unfolding accepted_answer

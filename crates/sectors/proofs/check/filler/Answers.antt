@@ -10,11 +10,7 @@ use Rattle.sectors.specs.Calls.{filler_refusal}
 use Rattle.sector_table.proofs.Admitted.{Admitted, admitted}
 use Rattle.sectors.proofs.Settled.{counted}
 use Rattle.sector_table.proofs.Table.{sound}
-use Rattle.sectors.proofs.check.filler.Tie as tie
 use Rattle.sectors.proofs.check.filler.Goals as goal
-
-admit : (c : tie.Else1) → Admitted 1 12 c.args.sector (length c.args.line.now)
-admit c = admitted _ _ _ _ _ (sym c.line_refusal-refused.ensures ∙ c.if-refused-ne0.false)
 
 pub returns-then-refused-ne0 : goal.returns-then-refused-ne0
 unfolding filler_refusal
@@ -22,11 +18,15 @@ returns-then-refused-ne0 c = says_some counted _ _ _ c.line_refusal-refused.ensu
 
 pub layout_of-requires : goal.layout_of-requires
 layout_of-requires c =
-    let h = admit c.before in (h.low, h.high)
+    let admit : Admitted 1 12 c.args.sector (length c.args.line.now) =
+      admitted _ _ _ _ _ (sym c.line_refusal-refused.ensures ∙ c.if-refused-ne0.false) in
+    let h = admit in (h.low, h.high)
 
 pub count_filler-requires : goal.count_filler-requires
 count_filler-requires c =
-    let h = admit c.before.before in (subst Sound (sym c.layout_of.ensures) (sound _ h.low h.high), h.long)
+    let admit : Admitted 1 12 c.args.sector (length c.args.line.now) =
+      admitted _ _ _ _ _ (sym c.line_refusal-refused.ensures ∙ c.if-refused-ne0.false) in
+    let h = admit in (subst Sound (sym c.layout_of.ensures) (sound _ h.low h.high), h.long)
 
 pub returns : goal.returns
 unfolding filler_refusal
