@@ -59,7 +59,6 @@ returns c =
       let a = c.args in
       c.entry_refusal-refused.ensures
       ∙ ap₂ (λ (n r : ℕ). entry_refusal a.format a.marks calibration2 n r (length a.block.now)) c.outside-served.ensures c.outside-range.ensures in
-    let left = c.before.before.before in
     let a = c.args in
-    says_none reals _ _ _ _ (refusal left.before) c.if-refused-ne0.false
+    says_none reals _ _ _ _ refusal c.if-refused-ne0.false
     (c.real_at.ensures ∙ ap (λ (p : ℕ). real_in 4 a.t.places (stretch a.block.now (p - 1) 4)) c.level_place.ensures.0)

@@ -38,11 +38,11 @@ unfolding publish_refusal
 returns-then-not-filling_as c =
     passed _ _ _ _ c.slot_refusal-r.ensures c.if-r-ne0.false
     (passed _ _ _ _ c.rest_refusal-q.ensures c.if-q-ne0.false
-    (sym (when_true _ 17 (ap not (sym c.filling_as.ensures) ∙ c.if-not-filling_as.true))))
+    (sym (when_true _ 17 (ap not (sym c.filling_as.ensures ∙ c.if-not-filling_as.true)))))
 
 pub returns : goal.returns
 unfolding publish_refusal
 returns c =
     passed _ _ _ _ c.slot_refusal-r.ensures c.if-r-ne0.false
     (passed _ _ _ _ c.rest_refusal-q.ensures c.if-q-ne0.false
-    (sym (when_false _ 17 (ap not (sym c.filling_as.ensures) ∙ c.if-not-filling_as.false))))
+    (sym (when_false _ 17 (ap not (sym c.filling_as.ensures ∙ c.if-not-filling_as.false)))))

@@ -38,11 +38,11 @@ unfolding release_refusal
 returns-then-not-held_by c =
     passed _ _ _ _ c.slot_refusal-r.ensures c.if-r-ne0.false
     (passed _ _ _ _ c.rest_refusal-q.ensures c.if-q-ne0.false
-    (sym (when_true _ 17 (ap not (sym c.held_by.ensures) ∙ c.if-not-held_by.true))))
+    (sym (when_true _ 17 (ap not (sym c.held_by.ensures ∙ c.if-not-held_by.true)))))
 
 pub returns : goal.returns
 unfolding release_refusal
 returns c =
     passed _ _ _ _ c.slot_refusal-r.ensures c.if-r-ne0.false
     (passed _ _ _ _ c.rest_refusal-q.ensures c.if-q-ne0.false
-    (sym (when_false _ 17 (ap not (sym c.held_by.ensures) ∙ c.if-not-held_by.false))))
+    (sym (when_false _ 17 (ap not (sym c.held_by.ensures ∙ c.if-not-held_by.false)))))

@@ -61,5 +61,4 @@ returns c =
     let tested : let a = c.args in c.field_refusal-refused.result ≡ field_refusal (outside_of 1 6 a.n 10) a.format a.line.now a.place a.n =
       let a = c.args in
       c.field_refusal-refused.ensures ∙ ap (λ (k : ℕ). field_refusal k a.format a.line.now a.place a.n) c.outside-form.ensures in
-    let passed = c.before.before.before in
-    bcd-read _ _ _ _ _ (from_place _ _) _ (sym (tested passed.before) ∙ c.if-refused-ne0.false) c.read_bcd.ensures
+    bcd-read _ _ _ _ _ (from_place _ _) _ (sym tested ∙ c.if-refused-ne0.false) c.read_bcd.ensures

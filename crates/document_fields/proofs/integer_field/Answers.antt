@@ -60,5 +60,4 @@ returns c =
     let tested : let a = c.args in c.field_refusal-refused.result ≡ field_refusal (outside_of 1 4 a.n 10) a.format a.line.now a.place a.n =
       let a = c.args in
       c.field_refusal-refused.ensures ∙ ap (λ (k : ℕ). field_refusal k a.format a.line.now a.place a.n) c.outside-form.ensures in
-    let passed = c.before.before.before in
-    integer-read _ _ _ _ _ (from_place _ _) _ (sym (tested passed.before) ∙ c.if-refused-ne0.false) c.read_integer.ensures
+    integer-read _ _ _ _ _ (from_place _ _) _ (sym tested ∙ c.if-refused-ne0.false) c.read_integer.ensures

@@ -60,5 +60,4 @@ returns c =
     let tested : let a = c.args in c.field_refusal-refused.result ≡ field_refusal (form_refusal a.n a.m) a.format a.line.now a.place a.n =
       let a = c.args in
       c.field_refusal-refused.ensures ∙ ap (λ (k : ℕ). field_refusal k a.format a.line.now a.place a.n) c.form_refusal.ensures in
-    let passed = c.before.before.before in
-    real_read _ _ _ _ _ (from_place _ _) _ _ (sym (tested passed.before) ∙ c.if-refused-ne0.false) c.read_real.ensures
+    real_read _ _ _ _ _ (from_place _ _) _ _ (sym tested ∙ c.if-refused-ne0.false) c.read_real.ensures

@@ -52,12 +52,11 @@ unfolding real_bytes
 returns c =
     let known : let a = c.args in (no_real a.n a.m ≡ false) × (a.magnitude < 2 ^ magnitude_bits a.n) × (a.n ≤ length a.out.now) =
       put_passed _ _ _ _ (sym c.put_refusal-refused.ensures ∙ c.if-refused-ne0.false) in
-    let passed = c.before.before.before.before.before.before.before in
     let args = c.args in
     let s = args.negative in
     let n = args.n in
     let out = args.out.now in
-    let k = known passed in
+    let k = known in
     let f = real_form _ _ k.0 in
     let unrefused = sym c.put_refusal-refused.ensures ∙ c.if-refused-ne0.false in
     let whole = c.put_together.ensures ∙ ap (λ (w : ℕ). sign_bit s * w + args.magnitude) c.sign_weight-weight.ensures in

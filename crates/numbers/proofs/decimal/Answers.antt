@@ -13,7 +13,6 @@ use Rattle.bits.proofs.Fields.{field_turn}
 use Rattle.numbers.specs.Decimals.{decimal_of}
 use Rattle.bits.proofs.Base.{base_more, base_none, digit_fits}
 use Rattle.numbers.proofs.Nines.{none_over, some_over_is}
-use Rattle.numbers.proofs.decimal.Tie as tie
 use Rattle.numbers.proofs.decimal.Goals as goal
 
 pub loop-i-init : goal.loop-i-init
@@ -28,14 +27,14 @@ returns-then-d-gt9 c =
     rw (some_over_is 4 args.count c.loop-i.i (bits_of args.bytes.now) (search rules) over)
 
 -- a turn's number fits twelve digits, whatever the digit
-fits : (c : tie.In-loop invariant-loop decreases-loop) (d : ℕ) → d < 10 → c.before.loop.a * 10 + d < 10 ^ 12
-fits c d h = digit_fits 10 c.before.loop.a d c.before.loop.i 12 c.before.loop.invariant.2 h (search rules)
+fits : (i a d : ℕ) → i < 12 → a < 10 ^ i → d < 10 → a * 10 + d < 10 ^ 12
+fits i a d few small digit = digit_fits 10 a d i 12 small digit (omega arith)
 
 pub overflow_mul-a : goal.overflow_mul-a
-overflow_mul-a c = omega (arith, fits c.before.before.before 0 (lit< tt))
+overflow_mul-a c = omega (arith, fits _ _ 0 (omega arith) c.loop-i.invariant.2 (lit< tt))
 
 pub overflow_add-a : goal.overflow_add-a
-overflow_add-a c = omega (arith, fits c.before.before.before c.field-d.result (search rules))
+overflow_add-a c = omega (arith, fits _ _ c.field-d.result (omega arith) c.loop-i.invariant.2 (omega arith))
 
 pub loop-i-preserved : goal.loop-i-preserved
 loop-i-preserved c =

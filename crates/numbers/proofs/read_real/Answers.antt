@@ -58,15 +58,14 @@ returns c =
       simp (c.first-refused.ensures, c.short.ensures, c.form_refusal.ensures) refl in
     let known : let a = c.args in (no_real a.n a.m ≡ false) × (a.n ≤ length a.bytes.now) =
       real_passed _ _ _ (sym tested ∙ c.if-refused-ne0.false) in
-    let past = c.before.before.before.before in
     let n = c.args.n in
     let bytes = c.args.bytes.now in
-    let k = known past in
+    let k = known in
     let f = real_form _ _ k.0 in
     let below : Below 256 bytes = below_all 256 bytes (λ i. (c.shared_slice_known-1.given i).fits) in
     let apart = c.taken_apart.ensures in
     let weight = c.sign_weight-weight.ensures in
     let parts = sym c.whole-v.ensures.0 ∙ apart.0 ∙ ap (λ (w : ℕ). sign_bit c.taken_apart.result.negative * w + c.taken_apart.result.magnitude) weight in
     let small = rw weight at apart.1 in
-    says_none reals _ _ _ _ (tested past.before) c.if-refused-ne0.false
+    says_none reals _ _ _ _ tested c.if-refused-ne0.false
     (real_whole c.taken_apart.result n c.args.m bytes below (omega arith) k.1 parts small apart.2)

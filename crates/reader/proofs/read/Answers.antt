@@ -18,8 +18,7 @@ pub returns-then-piece-eq0 : goal.returns-then-piece-eq0
 returns-then-piece-eq0 c =
     let start : tie.Start =
       c.before.before.before in
-    let at_1 = c.before.before in
-    let args = (start at_1.before).args in
+    let args = start.args in
     read_none args.format args.setting args.state args.piece.now args.line.now _ c.read_refusal-refused.ensures c.if-refused-ne0.false c.if-piece-eq0.true
 
 pub to_line-requires : goal.to_line-requires
@@ -36,11 +35,10 @@ returns-then-state c =
       c.before.before.before in
     let known : Admitted start.args.setting start.args.state (length start.args.line.now) =
       admitted _ _ _ _ (sym c.read_refusal-refused.ensures ∙ c.if-refused-ne0.false) in
-    let at_1 = c.before.before.before.before.before.before.before in
-    let args = (start at_1.before).args in
+    let args = start.args in
     read-call args.format args.setting args.state args.piece.now args.line.now _ c.read_refusal-refused.ensures c.if-refused-ne0.false c.if-piece-eq0.false
     (call_as (c.to_line.ensures.at args.setting)
-    (call-in args.setting args.state args.piece.now args.line.now c.if-piece-eq0.false c.if-state.true (counts-true-in args.state c.if-state.true (facts args.state (known at_1).possible).counts).1))
+    (call-in args.setting args.state args.piece.now args.line.now c.if-piece-eq0.false c.if-state.true (counts-true-in args.state c.if-state.true (facts args.state known.possible).counts).1))
 
 pub seek-requires : goal.seek-requires
 seek-requires c =
@@ -56,15 +54,13 @@ to_line-requires-in-Found c =
       c.before.before.before in
     let known : Admitted start.args.setting start.args.state (length start.args.line.now) =
       admitted _ _ _ _ (sym c.read_refusal-refused.ensures ∙ c.if-refused-ne0.false) in
-    let at-seek = c.before.before.before.before.before in
-    fill_found c.seek.ensures c.in-Found.is (omega arith) (omega arith) (known at-seek.before.before.before).long
+    fill_found c.seek.ensures c.in-Found.is (omega arith) (omega arith) known.long
 
 pub returns-in-Nothing : goal.returns-in-Nothing
 returns-in-Nothing c =
     let start : tie.Start =
       c.before.before.before in
-    let at_1 = c.before.before.before.before.before.before.before.before in
-    let args = (start at_1.before).args in
+    let args = start.args in
     read-call args.format args.setting args.state args.piece.now args.line.now _ c.read_refusal-refused.ensures c.if-refused-ne0.false c.if-piece-eq0.false
     (call_as (sought_none args.line.now c.seek.ensures c.in-Nothing.is c.between.ensures)
     (call-out args.setting args.state args.piece.now args.line.now c.if-piece-eq0.false c.if-state.false))
@@ -73,8 +69,7 @@ pub returns-in-Found : goal.returns-in-Found
 returns-in-Found c =
     let start : tie.Start =
       c.before.before.before in
-    let at_1 = c.before.before.before.before.before.before.before.before.before.before.before in
-    let args = (start at_1.before).args in
+    let args = start.args in
     read-call args.format args.setting args.state args.piece.now args.line.now _ c.read_refusal-refused.ensures c.if-refused-ne0.false c.if-piece-eq0.false
     (call_as (c.to_line-in-Found.ensures.at args.setting)
     (call-out args.setting args.state args.piece.now args.line.now c.if-piece-eq0.false c.if-state.false ∙ sought_found args.line.now c.seek.ensures c.in-Found.is))

@@ -56,7 +56,7 @@ returns c =
     let laid = laid2.before in
     let s = c.args.line.now in
     let u = high laid in
-    let l = low laid2 in
+    let l = low in
     let same : c.layout_of-u.result.count ≡ c.layout_of-l.result.count = u.many ∙ sym l.many in
     c.pair_run.ensures
     ∙ ap channel_of (ap₂ joined_of (row_pixels 8 c.layout_of-u.result s u c.requires.2 _ refl) (row_pixels 2 c.layout_of-l.result s l c.requires.2 _ same)

@@ -30,7 +30,6 @@ pub returns : goal.returns
 returns c =
     let knows : Row 10 c.layout_of-l.result =
       subst (Row 10) (sym c.layout_of-l.ensures) last_row in
-    let laid = c.before.before.before in
     c.wide_run.ensures
-    ∙ ap channel_of (row_pixels 10 c.layout_of-l.result c.args.line.now (knows laid) c.requires _ refl ∙ ap (λ (l : Layout). pixels_of l (bits_of c.args.line.now)) c.layout_of-l.ensures)
+    ∙ ap channel_of (row_pixels 10 c.layout_of-l.result c.args.line.now knows c.requires _ refl ∙ ap (λ (l : Layout). pixels_of l (bits_of c.args.line.now)) c.layout_of-l.ensures)
     ∙ given_some _ _ (eq-eqb _ _ c.if-last-ne1.false)

@@ -19,10 +19,9 @@ unfolding covered_of part
 returns-then-field-l c =
     let read : let a = c.args in c.remainder.result ≡ remainder_of a.start (covered_of a.l (bits_of a.line.now)) =
       c.remainder.ensures in
-    let first = c.before.before.before.before in
     let a = c.args in
     answer-six a.start a.l (bits_of a.line.now)
-    (sym (read first.before) ∙ c.if-remainder-ne0.false)
+    (sym read ∙ c.if-remainder-ne0.false)
     (λ z. c.if-field-l.true (c.field.ensures.0 ∙ id_part a.l a.line.now ∙ z))
 
 pub returns : goal.returns
@@ -30,8 +29,7 @@ unfolding covered_of part
 returns c =
     let read : let a = c.args in c.remainder.result ≡ remainder_of a.start (covered_of a.l (bits_of a.line.now)) =
       c.remainder.ensures in
-    let first = c.before.before.before.before in
     let a = c.args in
     answer-none a.start a.l (bits_of a.line.now)
-    (sym (read first.before) ∙ c.if-remainder-ne0.false)
+    (sym read ∙ c.if-remainder-ne0.false)
     (sym (c.field.ensures.0 ∙ id_part a.l a.line.now) ∙ c.if-field-l.false)

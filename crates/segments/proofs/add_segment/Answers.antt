@@ -10,11 +10,7 @@ use Rattle.blocks.proofs.Rows.{sound}
 use Rattle.segments.specs.Assembly.{segment_in, carried_refusal, add_segment_refusal, add_segment_left}
 use Rattle.segments.proofs.Known.{carries}
 use Rattle.segments.proofs.Settled.{added_kind, added-told}
-use Rattle.segments.proofs.add_segment.Tie as tie
 use Rattle.segments.proofs.add_segment.Goals as goal
-
-some : (c : tie.After-k) → c.in-Refused.k ≡ 0 → ⊥
-some c z = c.carried.ensures.2 (c.in-Refused.is ∙ ap Refused z)
 
 pub place-requires : goal.place-requires
 place-requires c =
@@ -22,10 +18,9 @@ place-requires c =
       sym c.carried.ensures.0 ∙ ap sub_number c.in-Is.is in
     let is-segment : let a = c.args in c.in-Is.segment ≡ segment_in a.line.now =
       ap sub_segment (sym c.in-Is.is) ∙ ap (λ (v : ℕ × ℕ). v.0) (c.carried.ensures.1 ∙ kept_none _ _ _ is_carried) in
-    let found = c.before.before.before in
     let a = c.args in
-    let h = carries a.format a.assembly.marks a.line.now a.number (length a.block.now) (is_carried found) in
-    record { row = sound a.number h.low h.high; small = subst (λ (s : ℕ). s ≤ 24) (sym (is-segment found)) h.segment; long = h.long; room = h.room }
+    let h = carries a.format a.assembly.marks a.line.now a.number (length a.block.now) is_carried in
+    record { row = sound a.number h.low h.high; small = subst (λ (s : ℕ). s ≤ 24) (sym is-segment) h.segment; long = h.long; room = h.room }
 
 pub returns-in-Is : goal.returns-in-Is
 returns-in-Is c =
@@ -33,16 +28,15 @@ returns-in-Is c =
       sym c.carried.ensures.0 ∙ ap sub_number c.in-Is.is in
     let is-segment : let a = c.args in c.in-Is.segment ≡ segment_in a.line.now =
       ap sub_segment (sym c.in-Is.is) ∙ ap (λ (v : ℕ × ℕ). v.0) (c.carried.ensures.1 ∙ kept_none _ _ _ is_carried) in
-    let found = c.before.before.before.before.before.before in
     let a = c.args in
-    added-told a.format a.assembly a.line.now a.number a.block.now (is_carried found) _ (is-segment found) _ _ c.place.ensures
+    added-told a.format a.assembly a.line.now a.number a.block.now is_carried _ is-segment _ _ c.place.ensures
 
 pub returns-in-Refused : goal.returns-in-Refused
 unfolding add_segment_refusal add_segment_left
 returns-in-Refused c =
     let is-refused : let a = c.args in c.in-Refused.k ≡ carried_refusal a.format a.assembly.marks a.line.now a.number (length a.block.now) =
       ap sub_number (sym c.in-Refused.is) ∙ c.carried.ensures.0 in
-    let found = c.before.before in
     let a = c.args in
-    let e = refused _ _ _ (is-refused found) (some found) in
-    (says_some (added_kind a.assembly) _ _ _ e (some found), sym (kept_some _ _ _ (λ z. some found (e ∙ z))))
+    let some : c.in-Refused.k ≡ 0 → ⊥ = λ z. c.carried.ensures.2 (c.in-Refused.is ∙ ap Refused z) in
+    let e = refused _ _ _ is-refused some in
+    (says_some (added_kind a.assembly) _ _ _ e some, sym (kept_some _ _ _ (λ z. some (e ∙ z))))

@@ -34,8 +34,7 @@ returns-then-is_marked c =
       let a = c.args in
       let told : c.remembered-revisions.result ≡ remembered a.assembly c.revisions_in-carried.result = c.remembered-revisions.ensures in
       told ∙ ap (remembered a.assembly) c.revisions_in-carried.ensures in
-    let known = c.before.before.before.before in
-    placed-again _ _ _ _ _ _ (refusal known.before.before) _ c.if-refused-ne0.false (sym c.is_marked.ensures ∙ c.if-is_marked.true) (from-now-on known)
+    placed-again _ _ _ _ _ _ refusal _ c.if-refused-ne0.false (sym c.is_marked.ensures ∙ c.if-is_marked.true) from-now-on
 
 pub store-requires : goal.store-requires
 store-requires c =
@@ -55,5 +54,4 @@ returns c =
       let a = c.args in
       let told : c.remembered-revisions.result ≡ remembered a.assembly c.revisions_in-carried.result = c.remembered-revisions.ensures in
       told ∙ ap (remembered a.assembly) c.revisions_in-carried.ensures in
-    let known = c.before.before.before.before.before.before.before.before.before.before in
-    placed-new _ _ _ _ _ _ (refusal known.before.before) _ _ _ _ c.if-refused-ne0.false (sym c.is_marked.ensures ∙ c.if-is_marked.false) (from-now-on known) c.with_mark.ensures c.store.ensures c.block_of.ensures
+    placed-new _ _ _ _ _ _ refusal _ _ _ _ c.if-refused-ne0.false (sym c.is_marked.ensures ∙ c.if-is_marked.false) from-now-on c.with_mark.ensures c.store.ensures c.block_of.ensures

@@ -78,4 +78,4 @@ returns c =
     let tested : let a = c.args in c.date_refusal-wrong.result ≡ date_refusal a.format a.line.now =
       passed _ _ _ _ c.doc_refusal-refused.ensures c.if-refused-ne0.false c.date_refusal-wrong.ensures in
     let passed = c.before.before.before in
-    says_none dated_kind _ _ _ _ (tested passed.before) c.if-wrong-ne0.false c.date_in.ensures
+    says_none dated_kind _ _ _ _ tested c.if-wrong-ne0.false c.date_in.ensures
