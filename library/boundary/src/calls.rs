@@ -14,17 +14,17 @@ pub const ORDERS: &str = "crates/demands/specs/Orders.antt";
 pub const TESTS: &str = "crates/histories/specs/Tests.antt";
 
 /// Rows of the proved list that have another name than their call, or more
-/// calls than one.
+/// calls than one. In the list a name has `-` or `_` between its words.
 const ROWS: [(&str, &[&str]); 11] = [
-    ("format-of", &["format"]),
+    ("format_of", &["format"]),
     ("step", &["stepped", "step"]),
-    ("data-of", &["data"]),
+    ("data_of", &["data"]),
     ("pixels", &["pixels", "pixels_wide"]),
-    ("put-pixels", &["put_pixels", "put_pixels_wide"]),
-    ("read-real", &["read_real", "read_f64"]),
+    ("put_pixels", &["put_pixels", "put_pixels_wide"]),
+    ("read_real", &["read_real", "read_f64"]),
     ("modes", &["scan_mode", "scanner_select"]),
-    ("real-field", &["real_field", "f64_field"]),
-    ("mapping-of", &["mapping"]),
+    ("real_field", &["real_field", "f64_field"]),
+    ("mapping_of", &["mapping"]),
     (
         "level",
         &["albedo", "albedo_f64", "temperature", "temperature_f64"],
@@ -56,10 +56,10 @@ pub fn tested(elsewhere: &str, text: &str) -> Result<BTreeMap<String, Vec<u64>>,
     for row in tokens[start + 1..].split(|t| t.text == "pub").skip(1) {
         let colon = row.iter().position(|t| t.text == ":").unwrap_or(0);
         let name: String = row[..colon].iter().map(|t| t.text.as_str()).collect();
+        let name = name.replace('-', "_");
         let found = numbers(&row[colon..], &tests);
         let calls = ROWS.iter().find(|r| r.0 == name).map(|r| r.1.to_vec());
-        let own = name.replace('-', "_");
-        for call in calls.unwrap_or(vec![&own]) {
+        for call in calls.unwrap_or(vec![&name]) {
             never.retain(|(c, n)| *c != call || !found.contains(n));
             let found = found
                 .iter()

@@ -1,5 +1,5 @@
-//! The boundary out of the Rattle text: every `#[no_mangle] pub extern "C" fn`
-//! and every `#[repr(C)] pub struct` of the crates.
+//! The boundary out of the Rattle text: every
+//! `#[unsafe(no_mangle)] pub extern "C" fn` and every `#[repr(C)] pub struct` of the crates.
 //!
 //! What touches the boundary in another shape is an error, so that nothing
 //! crosses unseen.
@@ -110,7 +110,7 @@ fn file(path: &str, text: &str) -> Result<File, String> {
     let mut exported = false;
     let mut repr = false;
     while !cursor.done() {
-        if cursor.take_all(&["#", "[", "no_mangle", "]"]) {
+        if cursor.take_all(&["#", "[", "unsafe", "(", "no_mangle", ")", "]"]) {
             exported = true;
         } else if cursor.take_all(&["#", "[", "repr", "(", "C", ")", "]"]) {
             repr = true;
@@ -138,7 +138,10 @@ fn file(path: &str, text: &str) -> Result<File, String> {
             out.structs.push(of_fields(&mut cursor)?);
             repr = false;
         } else if cursor.peek() == "extern" {
-            return Err(format!("{}: `extern` without #[no_mangle]", cursor.place()));
+            return Err(format!(
+                "{}: `extern` without #[unsafe(no_mangle)]",
+                cursor.place()
+            ));
         } else if cursor.peek() == "ghost" && cursor.ahead(1) == "use" {
             while !cursor.done() && cursor.word() != ";" {}
         } else if cursor.take("use") {

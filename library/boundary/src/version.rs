@@ -8,6 +8,7 @@ use crate::tools::ran;
 use crate::tree::Tree;
 
 pub const CALL: &str = "hansobrik_version";
+pub const GROUND: &str = "crates/rack_ground/src/lib.rt";
 pub const MANIFEST: &str = "library/rust/Cargo.toml";
 
 /// The macros of the header: its guard, and the version.
@@ -41,31 +42,26 @@ impl Version {
 
 /// The body of the call, which is one number; its contract says the same.
 pub fn version(tree: &Tree) -> Result<Version, String> {
-    for (path, text) in tree.rattle() {
-        let tokens = tokens(text);
-        let found = tokens
-            .windows(2)
-            .position(|w| w[0].text == "fn" && w[1].text == CALL);
-        let Some(found) = found else {
-            continue;
-        };
-        let mut cursor = Cursor::new(path, &tokens[found + 1..]);
-        let at = cursor.place();
-        while !cursor.done() && cursor.peek() != "{" {
-            if ["ensures", "requires"].contains(&cursor.word()) {
-                cursor.group("{", "}")?;
-            }
+    let tokens = tokens(tree.text(GROUND)?);
+    let found = tokens
+        .windows(2)
+        .position(|w| w[0].text == "fn" && w[1].text == CALL);
+    let found = found.ok_or_else(|| format!("{GROUND}: there is no {CALL}"))?;
+    let mut cursor = Cursor::new(GROUND, &tokens[found + 1..]);
+    let at = cursor.place();
+    while !cursor.done() && cursor.peek() != "{" {
+        if ["ensures", "requires"].contains(&cursor.word()) {
+            cursor.group("{", "}")?;
         }
-        return match cursor.group("{", "}")? {
-            [one] => {
-                let number = number(&one.text);
-                let number = number.ok_or_else(|| format!("{at}: {CALL} gives no plain number"))?;
-                Ok(Version { number, at })
-            }
-            _ => Err(format!("{at}: {CALL} gives no plain number")),
-        };
     }
-    Err(format!("crates: there is no {CALL}"))
+    match cursor.group("{", "}")? {
+        [one] => {
+            let number = number(&one.text);
+            let number = number.ok_or_else(|| format!("{at}: {CALL} gives no plain number"))?;
+            Ok(Version { number, at })
+        }
+        _ => Err(format!("{at}: {CALL} gives no plain number")),
+    }
 }
 
 /// A line for a macro of the header that is not compared, for one that is not

@@ -10,8 +10,8 @@ use boundary::tokens::{number, tokens};
 use boundary::{compare, rust};
 
 const SOURCE: &str = r##"
-// #[no_mangle] pub extern "C" fn hansobrik_not_this(a: u8) -> u8
-ghost use mathlib.Core.Path.{_≡_};
+// #[unsafe(no_mangle)] pub extern "C" fn hansobrik_not_this(a: u8) -> u8
+ghost use Rattle.std.specs.Prelude.{◌≡◌};
 use other::Inner;
 
 /* nor #[repr(C)] pub struct /* this */ one { pub a: u8 } */
@@ -30,27 +30,27 @@ pub struct ReaderState {
 }
 
 fn inner(a: Inner) -> u8
-    ensures { λ r'. ⌜ r' ≡ a ⌝ }
+    ensures { result ≡ a' }
 {
     let quote = b'"';
     a.of
 }
 
-#[no_mangle]
+#[unsafe(no_mangle)]
 pub extern "C" fn hansobrik_pair(
     format: u8,
     line: &[u8],
     out: &mut [u16],
     register: &mut u16,
 ) -> PairAnswer
-    ensures { λ r. ⌜ r ≡ pairOf format ⌝ }
+    ensures { result ≡ pair_of format }
 {
-    "#[no_mangle]"
+    "#[unsafe(no_mangle)]"
 }
 
-#[no_mangle]
+#[unsafe(no_mangle)]
 pub extern "C" fn hansobrik_none() -> ReaderState
-    ensures { λ r. ⌜ r ≡ none ⌝ }
+    ensures { result ≡ none }
 {
     none()
 }
@@ -154,11 +154,11 @@ fn what_is_not_read_is_an_error() {
             "has hansobrik_pair too",
         ),
         (
-            "#[no_mangle]\npub extern \"C\" fn hansobrik_none",
+            "#[unsafe(no_mangle)]\npub extern \"C\" fn hansobrik_none",
             "pub extern \"C\" fn hansobrik_none",
             "without",
         ),
-        ("#[no_mangle]\npub", "#[unsafe(no_mangle)]\npub", "`unsafe`"),
+        ("#[unsafe(no_mangle)]\npub", "#[no_mangle]\npub", "`no_mangle`"),
         (
             "#[repr(C)]\npub struct Reader",
             "#[repr(C, packed)]\npub struct Reader",
@@ -194,7 +194,7 @@ fn what_is_not_read_is_an_error() {
 
 #[test]
 fn a_struct_is_the_one_that_its_file_means() {
-    let user = "use rack_a::A;\n#[no_mangle]\npub extern \"C\" fn hansobrik_a() -> A {}\n";
+    let user = "use rack_a::A;\n#[unsafe(no_mangle)]\npub extern \"C\" fn hansobrik_a() -> A {}\n";
     let a = "#[repr(C)]\npub struct A { pub n: u8 }\n";
     let both = |user: &str| {
         let files = [

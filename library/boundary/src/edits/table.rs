@@ -6,13 +6,15 @@ use crate::header::FILE as HEADER;
 use crate::numbers::{NAMED, NUMBERS, ORDER, TABLE};
 use crate::rust::{DOCUMENTATION, RAW, REFUSAL, SIZES};
 use crate::sizes::{BLOCK, DESK, FORMATS, LAYOUT, RACK, READER, REPORT};
-use crate::version::MANIFEST;
+use crate::version::{GROUND, MANIFEST};
 
-const GROUND: &str = "crates/rack_ground/src/lib.rt";
-const RECORDING: &str = "crates/rack_recording/src/lib.rt";
+/// The exports, by the crate that they call.
+const TO_GROUND: &str = "crates/hansobrik/src/ground.rt";
+const TO_RECORDING: &str = "crates/hansobrik/src/recording.rt";
+const TO_SECTOR: &str = "crates/hansobrik/src/sector.rt";
+const TO_BLOCKS: &str = "crates/hansobrik/src/blocks.rt";
 const SECTOR: &str = "crates/rack_sector/src/lib.rt";
 const NUMBER: &str = "crates/rack_number/src/lib.rt";
-const BLOCKS: &str = "crates/rack_blocks/src/lib.rt";
 
 pub const EDITS: &[Edit] = &[
     // structs of the header
@@ -207,7 +209,7 @@ pub const EDITS: &[Edit] = &[
     ),
     texts(
         &[(HEADER, "hansobrik_state hansobrik_fresh(void);", "")],
-        &["hansobrik_fresh is missing", RECORDING],
+        &["hansobrik_fresh is missing", TO_RECORDING],
     ),
     texts(
         &[(HEADER, "hansobrik_fresh(void)", "hansobrik_fresh()")],
@@ -312,7 +314,7 @@ pub const EDITS: &[Edit] = &[
             "pub fn hansobrik_format(format: u8) -> FormatAnswer;",
             "",
         )],
-        &["hansobrik_format is missing", GROUND],
+        &["hansobrik_format is missing", TO_GROUND],
     ),
     texts(
         &[(
@@ -378,7 +380,7 @@ pub const EDITS: &[Edit] = &[
     ),
     texts(
         &[(
-            RECORDING,
+            TO_RECORDING,
             "piece: &[u8], line: &mut [u8],",
             "line: &mut [u8], piece: &[u8],",
         )],
@@ -390,7 +392,7 @@ pub const EDITS: &[Edit] = &[
     ),
     texts(
         &[(
-            SECTOR,
+            TO_SECTOR,
             "pub extern \"C\" fn hansobrik_filler",
             "pub extern \"C\" fn hansobrik_fill",
         )],
@@ -399,26 +401,30 @@ pub const EDITS: &[Edit] = &[
     texts(
         &[(
             GROUND,
-            "#[repr(C)] pub struct StepAnswer",
-            "pub struct StepAnswer",
+            "#[repr(C)] #[derive(Clone, Copy)] pub struct StepAnswer",
+            "#[derive(Clone, Copy)] pub struct StepAnswer",
         )],
         &["hansobrik_stepped", "StepAnswer", "no #[repr(C)] struct"],
     ),
     texts(
         &[(
-            GROUND,
-            "#[no_mangle] pub extern \"C\" fn hansobrik_stepped",
+            TO_GROUND,
+            "#[unsafe(no_mangle)] pub extern \"C\" fn hansobrik_stepped",
             "pub extern \"C\" fn hansobrik_stepped",
         )],
-        &[GROUND, "`extern` without #[no_mangle]"],
+        &[TO_GROUND, "`extern` without #[unsafe(no_mangle)]"],
     ),
     texts(
         &[(
-            BLOCKS,
-            "#[no_mangle]",
+            TO_BLOCKS,
+            "#[unsafe(no_mangle)]",
             "#[export_name = \"hansobrik_other\"]",
         )],
-        &[BLOCKS, "`export_name`"],
+        &[TO_BLOCKS, "`export_name`"],
+    ),
+    texts(
+        &[(TO_BLOCKS, "#[unsafe(no_mangle)]", "#[no_mangle]")],
+        &[TO_BLOCKS, "`no_mangle`"],
     ),
     texts(
         &[(SECTOR, "pub vis: [u8; 4],", "pub vis: [u8; 3],")],
@@ -575,8 +581,8 @@ pub const EDITS: &[Edit] = &[
     texts(
         &[(
             ORDERS,
-            "(stripRefusal f long given) (formatTest f ∷ (2,",
-            "(stripRefusal f long given) (formatTest f ∷ (4,",
+            "(strip_refusal f long given) (format_test f ∷ (2,",
+            "(strip_refusal f long given) (format_test f ∷ (4,",
         )],
         &[
             "hansobrik_strip: refused with",
