@@ -4,7 +4,7 @@ use mathlib.Core.Bool.{Bool, true, false, cond, ◌&&◌, ◌||◌, not, false�
 use mathlib.Core.List.{List, [], ◌∷◌}
 use mathlib.Core.Logic.{◌↔◌}
 use mathlib.Core.Option.{Option, none, some}
-use mathlib.Core.Path.{◌≡◌, refl, sym, ap, ap₂, ◌∙◌}
+use mathlib.Core.Path.{subst, ◌≡◌, refl, sym, ap, ap₂, ◌∙◌}
 use Prim.Native.Nat.{ℕ, zero, suc, ◌<◌}
 use native.Mathlib.Omega.{arith}
 use borrow.Author.Tests.{eqb-true, eqb-false, eq-eqb, not-true, not-false}
@@ -155,7 +155,7 @@ says_publish d log area i n l h s f j = go (eqb i j) refl
     go true e =
         let z = eqb-true i j e in
         record {
-          same = rw (sym z) (now ∙ here);
+          same = subst (λ (k : ℕ). slot_of (with_slot d i (Held n true true)) k ≡ used_by k (published i n ∷ log)) z (now ∙ here);
           quiet = λ c m g. let y : Held n true true ≡ Filling m = sym now ∙ (rw (sym z) at g) in absurd (let x : ◌≡◌ {A = ℕ} 0 1 = cc in omega arith);
         }
     go false e =
@@ -207,7 +207,7 @@ says_release d log area c i n l h s f j = go (eqb i j) refl
     go true e =
         let z = eqb-true i j e in
         record {
-          same = rw (sym z) (now ∙ here);
+          same = subst (λ (k : ℕ). slot_of (with_slot d i u) k ≡ used_by k (released c i n ∷ log)) z (now ∙ here);
           quiet = λ b m g. absurd (held_or_filling n m (not (r 1) && not (eqb c 1)) (not (r 2) && not (eqb c 2)) (sym then ∙ sym now ∙ (rw (sym z) at g)));
         }
     go false e =

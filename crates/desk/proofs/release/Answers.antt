@@ -33,6 +33,6 @@ pub returns : goal.returns
 unfolding release_answer
 returns c =
     let start = c.args in
-    change_done (release_refusal start.t1 start.area start.consumer start.slot start.serial) start.t1 (with_slot start.t1 start.slot (let_go start.consumer (slot_of start.t1 start.slot))) _
+    change_done (release_refusal start.d start.area start.consumer start.slot start.serial) start.d (with_slot start.d start.slot (let_go start.consumer (slot_of start.d start.slot))) _
     (sym c.release_refusal-r.ensures ∙ c.if-r-ne0.false)
-    (c.with_slot-e.ensures ∙ ap (λ (u : Use). with_slot start.t1 start.slot u) c.let_go-u.ensures)
+    (c.with_slot-e.ensures ∙ ap (λ (u : Use). with_slot start.d start.slot u) c.let_go-u.ensures)

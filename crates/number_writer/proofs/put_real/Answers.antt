@@ -23,7 +23,10 @@ pub returns-then-refused-ne0 : goal.returns-then-refused-ne0
 unfolding put_real_answer put_real_left
 returns-then-refused-ne0 c =
     let e = c.put_refusal-refused.ensures in
-    (put_real_told _ _ _ _ _ (given_some Refused _ _ _ e c.if-refused-ne0.true), sym (kept_some _ _ _ (λ z. c.if-refused-ne0.true (e ∙ z))))
+    record {
+      put_real_ok = put_real_told _ _ _ _ _ (given_some Refused _ _ _ e c.if-refused-ne0.true);
+      out_after = sym (kept_some _ _ _ (λ z. c.if-refused-ne0.true (e ∙ z)));
+    }
 
 pub sign_weight-weight-requires : goal.sign_weight-weight-requires
 sign_weight-weight-requires c =
@@ -63,4 +66,4 @@ returns c =
     let bytes = ap (digits (8 * n)) whole ∙ sign_digits s args.magnitude n (omega arith) k.1 in
     let written = c.put_whole.ensures ∙ ap (λ (bs : List ℕ). fields_of 8 n bs ++ drop n out) bytes in
     let told = put_real_told args.magnitude n args.m (length out) _ (sym (put_done args.magnitude n args.m (length out) unrefused)) in
-    (told, written ∙ sym (written_done s args.magnitude n args.m out unrefused))
+    record { put_real_ok = told; out_after = written ∙ sym (written_done s args.magnitude n args.m out unrefused) }

@@ -52,10 +52,8 @@ returns c =
       let pre = c.requires in subst (Row 8) (sym c.layout_of-u.ensures) (upper_row _ pre.0 pre.1) in
     let low : Row 2 c.layout_of-l.result =
       let pre = c.requires in subst (Row 2) (sym c.layout_of-l.ensures) (lower_row _ pre.0 pre.1) in
-    let laid2 = c.before.before.before.before in
-    let laid = laid2.before in
     let s = c.args.line.now in
-    let u = high laid in
+    let u = high in
     let l = low in
     let same : c.layout_of-u.result.count ≡ c.layout_of-l.result.count = u.many ∙ sym l.many in
     c.pair_run.ensures

@@ -15,7 +15,7 @@ returns c =
     let s = x.strip.now in
     let a = (x.sector - 5) * part_bytes in
     let b = bits_of x.line.now in
-    let lent : c.visible.new.1.1.1.0 ≡ visible_of x.start x.sector b (take (a + part_bytes - a) (drop a s)) = c.visible.ensures.1 in
+    let lent : c.visible.new.part ≡ visible_of x.start x.sector b (take (a + part_bytes - a) (drop a s)) = c.visible.ensures.1 in
     let width : a + part_bytes - a ≡ part_bytes = omega arith in (
       c.visible.ensures.0,
       ap (λ (y : List ℕ). take a s ++ (y ++ drop (a + part_bytes - a) (drop a s))) lent
