@@ -4,6 +4,8 @@
 //
 // It keeps one area, one piece of the recording and one desk, however long the recording is. What a holder reads is proved of
 // `reader`, `desk` and `feeding`; of its own functions it is proved that they are safe and end.
+#![tactic(auto)]
+
 ghost use Rattle.player.specs.Places.{Places};
 
 use desk_record::Desk;
@@ -88,28 +90,51 @@ fn onward(c: Consumer, slot: usize) -> Consumer {
     Consumer {
         number: c.number,
         lag: c.lag,
-        next: std::num::wrapping_add_u32(c.next, 1),
+        next: c.next.wrapping_add(1),
         slot: slot,
     }
 }
 
 // What a consumer sees, and that it releases; false where the row cannot be written.
-fn sees(d: Desk, c: Consumer, slot: usize, time: u64, format: u8, area: &[u8]) -> bool {
+fn sees(
+    rt: &HostRuntime,
+    d: Desk,
+    c: Consumer,
+    slot: usize,
+    time: u64,
+    format: u8,
+    area: &[u8],
+) -> bool {
     let part = desk::seen(d, AREA, c.number, slot, c.next);
     let row = rows::placed(rows::of(time, c.number, b"sees"), slot, c.next);
-    looks::shown(row, format, area, part.from, part.to).write()
+    looks::shown(row, format, area, part.from, part.to).write(rt)
 }
 
-fn releases(time: u64, consumer: u8, slot: usize, serial: u32, refused: u8) -> bool {
+fn releases(
+    rt: &HostRuntime,
+    time: u64,
+    consumer: u8,
+    slot: usize,
+    serial: u32,
+    refused: u8,
+) -> bool {
     let row = rows::placed(rows::of(time, consumer, b"releases"), slot, serial);
-    rows::answered(row, refused).write()
+    rows::answered(row, refused).write(rt)
 }
 
 // A consumer sees its next line, which stands in a slot, and releases it.
-fn works(d: Desk, c: Consumer, slot: usize, time: u64, format: u8, area: &[u8]) -> Turned {
-    let seen = sees(d, c, slot, time, format, area);
+fn works(
+    rt: &HostRuntime,
+    d: Desk,
+    c: Consumer,
+    slot: usize,
+    time: u64,
+    format: u8,
+    area: &[u8],
+) -> Turned {
+    let seen = sees(rt, d, c, slot, time, format, area);
     let a = desk::release(d, AREA, c.number, slot, c.next);
-    let released = releases(time, c.number, slot, c.next, a.refused);
+    let released = releases(rt, time, c.number, slot, c.next, a.refused);
     let after = a.desk;
     Turned {
         desk: after,
@@ -119,11 +144,19 @@ fn works(d: Desk, c: Consumer, slot: usize, time: u64, format: u8, area: &[u8]) 
 }
 
 // A consumer's turn: its next line, where it is published and due.
-fn turn(d: Desk, c: Consumer, times: &[u64; 8], time: u64, format: u8, area: &[u8]) -> Turned {
+fn turn(
+    rt: &HostRuntime,
+    d: Desk,
+    c: Consumer,
+    times: &[u64; 8],
+    time: u64,
+    format: u8,
+    area: &[u8],
+) -> Turned {
     let slot = slot_of(d, c);
     if slot < 8 {
         if due(times[slot], time, c.lag) {
-            return works(d, c, slot, time, format, area);
+            return works(rt, d, c, slot, time, format, area);
         }
     }
     Turned {
@@ -135,6 +168,7 @@ fn turn(d: Desk, c: Consumer, times: &[u64; 8], time: u64, format: u8, area: &[u
 
 // Preview's turn, and then capture's.
 fn turns(
+    rt: &HostRuntime,
     d: Desk,
     preview: Consumer,
     capture: Consumer,
@@ -143,9 +177,9 @@ fn turns(
     format: u8,
     area: &[u8],
 ) -> Seen {
-    let one = turn(d, preview, times, time, format, area);
+    let one = turn(rt, d, preview, times, time, format, area);
     let between = one.desk;
-    let two = turn(between, capture, times, time, format, area);
+    let two = turn(rt, between, capture, times, time, format, area);
     let after = two.desk;
     Seen {
         desk: after,
@@ -156,17 +190,23 @@ fn turns(
 }
 
 // The old fault: a consumer releases its last line once more.
-fn again(d: Desk, c: Consumer, time: u64) -> bool {
+fn again(rt: &HostRuntime, d: Desk, c: Consumer, time: u64) -> bool {
     if c.next <= 1 {
         return true;
     }
     let last = c.next - 1;
     let a = desk::release(d, AREA, c.number, c.slot, last);
-    releases(time, c.number, c.slot, last, a.refused)
+    releases(rt, time, c.number, c.slot, last, a.refused)
 }
 
 // On to the next complete line, in a slot of the area; the feeder took the slot, so it is one of the eight.
-fn filled(p: Player, piece: &mut [u8; player::PIECE], area: &mut [u8], slot: usize) -> Player
+fn filled(
+    rt: &HostRuntime,
+    p: Player,
+    piece: &mut [u8; player::PIECE],
+    area: &mut [u8],
+    slot: usize,
+) -> Player
     requires { Places p }
     ensures { Places result }
 {
@@ -174,29 +214,29 @@ fn filled(p: Player, piece: &mut [u8; player::PIECE], area: &mut [u8], slot: usi
         let from = slot * LINE;
         let to = from + LINE;
         if to <= area.len() {
-            return player::next(p, piece, &mut area[from..to]);
+            return player::next(rt, p, piece, &mut area[from..to]);
         }
     }
     p
 }
 
 // The feeder's rows; false where one cannot be written.
-fn took(time: u64, refused: u8, slot: usize, serial: u32) -> bool {
+fn took(rt: &HostRuntime, time: u64, refused: u8, slot: usize, serial: u32) -> bool {
     let takes = rows::feeder(time, b"takes");
     if refused != 0 {
-        return takes.refused(refused).write();
+        return takes.refused(refused).write(rt);
     }
-    rows::placed(takes, slot, serial).write()
+    rows::placed(takes, slot, serial).write(rt)
 }
 
-fn published(time: u64, refused: u8, slot: usize, serial: u32) -> bool {
+fn published(rt: &HostRuntime, time: u64, refused: u8, slot: usize, serial: u32) -> bool {
     let publishes = rows::placed(rows::feeder(time, b"publishes"), slot, serial);
-    rows::answered(publishes, refused).write()
+    rows::answered(publishes, refused).write(rt)
 }
 
 // What the feeder's turn leaves: the playing of the recording and the desk; the slot and serial number of the line that it published,
 // serial 0 where it published none; 1 where it waited; and whether its rows could be written.
-#[derive(Clone, Copy)]
+#[derive(Drop)]
 struct Fed {
     player: Player,
     desk: Desk,
@@ -224,7 +264,14 @@ fn idle(p: Player, d: Desk, waits: u64, written: bool) -> Fed
 // The feeder's turn: it takes a slot, fills it and publishes the line. Where no slot is free it waits; where a take is refused for
 // another reason, as with the last serial number, the class ends without its last rows. Once the recording is at its end it does
 // nothing more.
-fn feed(p: Player, d: Desk, time: u64, piece: &mut [u8; player::PIECE], area: &mut [u8]) -> Fed
+fn feed(
+    rt: &HostRuntime,
+    p: Player,
+    d: Desk,
+    time: u64,
+    piece: &mut [u8; player::PIECE],
+    area: &mut [u8],
+) -> Fed
     requires { Places p }
     ensures { Places result.player }
 {
@@ -233,13 +280,13 @@ fn feed(p: Player, d: Desk, time: u64, piece: &mut [u8; player::PIECE], area: &m
     }
     let t = desk::take(d, AREA);
     let taken = t.desk;
-    if !took(time, t.refused, t.slot, t.serial) {
+    if !took(rt, time, t.refused, t.slot, t.serial) {
         return idle(p, taken, 0, false);
     }
     if t.refused != 0 {
         return idle(p, taken, 1, t.refused == refusals::NO_SLOT);
     }
-    let q = filled(p, piece, area, t.slot);
+    let q = filled(rt, p, piece, area, t.slot);
     if !q.whole {
         return idle(q, taken, 0, true);
     }
@@ -251,7 +298,7 @@ fn feed(p: Player, d: Desk, time: u64, piece: &mut [u8; player::PIECE], area: &m
         slot: t.slot,
         serial: t.serial,
         waits: 0,
-        written: published(time, a.refused, t.slot, t.serial),
+        written: published(rt, time, a.refused, t.slot, t.serial),
     }
 }
 
@@ -281,7 +328,7 @@ fn arrived(number: u8, lag: u64) -> Consumer {
 
 // How a class stands after a line time: the playing of the recording, the desk, the consumers; how often the feeder waited, how many
 // lines are published, the line time, and whether all rows could be written.
-#[derive(Clone, Copy)]
+#[derive(Drop)]
 struct Class {
     player: Player,
     desk: Desk,
@@ -309,6 +356,7 @@ fn goes_on(written: bool, more: bool, lines: u32, preview: u32, capture: u32) ->
 
 // One line time: the feeder's turn, and then those of the consumers.
 fn line_time(
+    rt: &HostRuntime,
     was: Class,
     piece: &mut [u8; player::PIECE],
     area: &mut [u8],
@@ -317,25 +365,25 @@ fn line_time(
     requires { Places was.player }
     ensures { Places result.player }
 {
-    let time = std::num::wrapping_add_u64(was.time, 1);
+    let time = was.time.wrapping_add(1);
     let waits = was.waits;
     let lines = was.lines;
     let preview = was.preview;
     let capture = was.capture;
     let p = was.player;
     let d = was.desk;
-    let f = feed(p, d, time, piece, area);
+    let f = feed(rt, p, d, time, piece, area);
     note(times, f.slot, f.serial, time);
     let q = f.player;
     let fed = f.desk;
-    let s = turns(fed, preview, capture, times, time, q.format, area);
+    let s = turns(rt, fed, preview, capture, times, time, q.format, area);
     let last = s.desk;
     Class {
         player: q,
         desk: last,
         preview: s.preview,
         capture: s.capture,
-        waits: std::num::wrapping_add_u64(waits, f.waits),
+        waits: waits.wrapping_add(f.waits),
         lines: counted(lines, f.serial),
         time: time,
         written: if f.written { s.written } else { false },
@@ -343,24 +391,29 @@ fn line_time(
 }
 
 // The last rows.
-fn close(c: Class) {
+fn close(rt: &HostRuntime, c: &Class) {
     let d = c.desk;
-    if !again(d, c.preview, c.time) {
+    if !again(rt, d, c.preview, c.time) {
         return;
     }
-    if !again(d, c.capture, c.time) {
+    if !again(rt, d, c.capture, c.time) {
         return;
     }
-    if text::empty().words(b"waits ").number(c.waits).write() {
+    if text::empty().words(b"waits ").number(c.waits).write(rt) {
         text::empty()
             .words(b"total ")
             .number(c.lines as u64)
-            .write();
+            .write(rt);
     }
 }
 
 // The class, to its end.
-fn play(begun: Class, piece: &mut [u8; player::PIECE], area: &mut [u8])
+fn play(
+    rt: &HostRuntime,
+    begun: Class,
+    piece: &mut [u8; player::PIECE],
+    area: &mut [u8],
+)
     requires { Places begun.player }
 {
     let mut times = [0u64; 8];
@@ -376,75 +429,75 @@ fn play(begun: Class, piece: &mut [u8; player::PIECE], area: &mut [u8])
         )
     {
         left -= 1;
-        c = line_time(c, piece, area, &mut times);
+        c = line_time(rt, c, piece, area, &mut times);
     }
     if !c.written {
         return;
     }
-    let p = c.player;
-    if player::ended(p) {
-        close(c);
+    if player::ended(rt, &c.player) {
+        close(rt, &c);
     }
 }
 
 // Whether the word at a place is a lag.
-fn is_lag(place: usize, usage: &[u8]) -> bool {
-    if MOST < command::number_at(place, 0) {
-        command::refuse_word(b"not a number of line times: ", place, usage);
+fn is_lag(rt: &HostRuntime, place: usize, usage: &[u8]) -> bool {
+    if MOST < command::number_at(rt, place, 0) {
+        command::refuse_word(rt, b"not a number of line times: ", place, usage);
         return false;
     }
     true
 }
 
 // Whether the words are those of a class.
-fn served(asked: Asked, usage: &[u8]) -> bool {
-    if !command::goes_on(asked, usage) {
+fn served(rt: &HostRuntime, asked: Asked, usage: &[u8]) -> bool {
+    if !command::goes_on(rt, asked, usage) {
         return false;
     }
     if asked.names < 3 {
-        command::refuse_missing(b"SLOTS, PREVIEW and CAPTURE are needed", usage);
+        command::refuse_missing(rt, b"SLOTS, PREVIEW and CAPTURE are needed", usage);
         return false;
     }
-    if !is_lag(asked.second, usage) {
+    if !is_lag(rt, asked.second, usage) {
         return false;
     }
-    is_lag(asked.third, usage)
+    is_lag(rt, asked.third, usage)
 }
 
 // A class by words that are served, over the recording that they name.
-fn begin(asked: Asked, usage: &[u8]) {
+fn begin(rt: &HostRuntime, asked: Asked, usage: &[u8]) {
     let mut area = [0u8; AREA];
     let mut piece = [0u8; player::PIECE];
-    let fresh = desk::fresh(command::number_at(asked.first, 0) as usize);
+    let fresh = desk::fresh(command::number_at(rt, asked.first, 0) as usize);
     if fresh.refused != 0 {
         text::empty()
             .words(b"a desk has 2 to 8 slots:")
             .refused(fresh.refused)
-            .tell();
+            .tell(rt);
         return;
     }
-    let p = player::named(asked, asked.fourth, usage, &mut piece);
+    let p = player::named(rt, asked, asked.fourth, usage, &mut piece);
     let empty = fresh.desk;
     let begun = Class {
         player: p,
         desk: empty,
-        preview: arrived(desk::PREVIEW, command::number_at(asked.second, 0)),
-        capture: arrived(desk::CAPTURE, command::number_at(asked.third, 0)),
+        preview: arrived(desk::PREVIEW, command::number_at(rt, asked.second, 0)),
+        capture: arrived(desk::CAPTURE, command::number_at(rt, asked.third, 0)),
         waits: 0,
         lines: 0,
         time: 0,
         written: true,
     };
-    play(begun, &mut piece, &mut area);
+    play(rt, begun, &mut piece, &mut area);
 }
 
-fn main() {
+fn main(rt: HostRuntime) {
     let usage = USAGE;
-    let asked = command::asked_for(Takes {
+    let takes = Takes {
         names: 4,
         setting: true,
-    });
-    if served(asked, &usage) {
-        begin(asked, &usage);
+    };
+    let asked = command::asked_for(&rt, takes);
+    if served(&rt, asked, &usage) {
+        begin(&rt, asked, &usage);
     }
 }

@@ -5,6 +5,8 @@
 // A recording here is noise of one byte, tails where the edge has them, and information bits that are the noise too. With
 // noise of zeros the plain line opens with the scrambling bytes after SYNC, every second one inverted: 00 FD 00 F3. Where
 // the line's first bits are those of a tail, they are information bits like any others, and it opens 4B 46 B9 6A.
+#![tactic(auto)]
+
 ghost use Rattle.std.specs.Prelude.{◌<◌, ◌≤◌, length};
 
 use reader_line::Answer;
@@ -97,7 +99,7 @@ fn after(r: Run, a: Answer, all: usize) -> Run
             Run {
                 at: at,
                 state: state,
-                lines: std::num::wrapping_add_u64(r.lines, 1),
+                lines: r.lines.wrapping_add(1),
                 ended: at,
                 unread: state.unread_count,
             }
@@ -137,28 +139,35 @@ fn drive(setting: u8, rec: &[u8], size: usize, line: &mut [u8; LINE]) -> Run {
 }
 
 // The first bytes of a recording, read in pieces of at most size bytes, and what was seen; at setting 0, and at another.
-fn edge(name: &[u8], rec: &[u8; SPACE], bytes: usize, size: usize) {
-    seen(text::empty().words(name), 0, rec, bytes, size);
+fn edge(rt: &HostRuntime, name: &[u8], rec: &[u8; SPACE], bytes: usize, size: usize) {
+    seen(rt, text::empty().words(name), 0, rec, bytes, size);
 }
 
-fn edge_at(name: &[u8], setting: u8, rec: &[u8; SPACE], bytes: usize, size: usize) {
+fn edge_at(
+    rt: &HostRuntime,
+    name: &[u8],
+    setting: u8,
+    rec: &[u8; SPACE],
+    bytes: usize,
+    size: usize,
+) {
     let row = text::empty()
         .words(name)
         .words(b" at setting ")
         .number(setting as u64);
-    seen(row, setting, rec, bytes, size);
+    seen(rt, row, setting, rec, bytes, size);
 }
 
-fn seen(name: Row, setting: u8, rec: &[u8], bytes: usize, size: usize) {
+fn seen(rt: &HostRuntime, name: Row, setting: u8, rec: &[u8], bytes: usize, size: usize) {
     let end = end_of(0, bytes, rec.len());
     let mut line = [7u8; LINE];
     let r = drive(setting, &rec[..end], size, &mut line);
     let row = name.words(b": lines ").number(r.lines);
     if r.lines > 0 {
-        last(row, r, &line).write();
+        last(row, r, &line).write(rt);
         return;
     }
-    row.write();
+    row.write(rt);
 }
 
 fn byte(n: u8) -> u64 {
@@ -201,29 +210,36 @@ fn taken(a: Answer) -> usize {
 }
 
 // The refusal of a call with nothing to read, in a format, at a setting, with a record and a buffer that is lent.
-fn told(name: &[u8], format: u8, setting: u8, s: State, line: &mut [u8]) {
+fn told(
+    rt: &HostRuntime,
+    name: &[u8],
+    format: u8,
+    setting: u8,
+    s: State,
+    line: &mut [u8],
+) {
     let none = [0u8; 1];
     let a = reader::read(format, setting, s, &none[..0], line);
     text::empty()
         .words(name)
         .words(b": refusal ")
         .number(refusal(a) as u64)
-        .write();
+        .write(rt);
 }
 
 // With a buffer of 44,356 bytes, at setting 0 and at another; and of one byte less.
-fn asked(name: &[u8], format: u8, s: State) {
-    asked_at(name, format, 0, s);
+fn asked(rt: &HostRuntime, name: &[u8], format: u8, s: State) {
+    asked_at(rt, name, format, 0, s);
 }
 
-fn asked_at(name: &[u8], format: u8, setting: u8, s: State) {
+fn asked_at(rt: &HostRuntime, name: &[u8], format: u8, setting: u8, s: State) {
     let mut line = [0u8; LINE];
-    told(name, format, setting, s, &mut line);
+    told(rt, name, format, setting, s, &mut line);
 }
 
-fn asked_short(name: &[u8], format: u8, setting: u8, s: State) {
+fn asked_short(rt: &HostRuntime, name: &[u8], format: u8, setting: u8, s: State) {
     let mut line = [0u8; 44355];
-    told(name, format, setting, s, &mut line);
+    told(rt, name, format, setting, s, &mut line);
 }
 
 // A record between lines, and one in a line, with the fields that an edge has.
@@ -262,44 +278,45 @@ fn reading(
 }
 
 // Lines at their edges.
-fn lines_at_edges() {
+fn lines_at_edges(rt: &HostRuntime) {
     let mut rec = [0u8; SPACE];
     // 63 bits of the tail, from the second bit on, and the end
     put_tail(&mut rec, 1);
-    edge(b"63 tail bits and the end", &rec, 8, SPACE);
-    edge(b"64 tail bits and 354847 bits", &rec, 44364, SPACE);
+    edge(rt, b"63 tail bits and the end", &rec, 8, SPACE);
+    edge(rt, b"64 tail bits and 354847 bits", &rec, 44364, SPACE);
     noise(&mut rec, 0);
     put_tail(&mut rec, 0);
-    edge(b"64 tail bits and 354848 bits", &rec, 44364, SPACE);
-    edge(b"one-byte pieces", &rec, 44364, 1);
-    edge(b"44363-byte pieces", &rec, 44364, 44363);
+    edge(rt, b"64 tail bits and 354848 bits", &rec, 44364, SPACE);
+    edge(rt, b"one-byte pieces", &rec, 44364, 1);
+    edge(rt, b"44363-byte pieces", &rec, 44364, 44363);
     // another tail inside the line, at byte 1000 of it
     put_tail(&mut rec, 8064);
-    edge(b"a tail inside a line", &rec, SPACE, SPACE);
+    edge(rt, b"a tail inside a line", &rec, SPACE, SPACE);
     // another across the line's end, 32 bits on each side
     noise(&mut rec, 0);
     put_tail(&mut rec, 0);
     put_tail(&mut rec, 354880);
-    edge(b"a tail across a line's end", &rec, SPACE, SPACE);
+    edge(rt, b"a tail across a line's end", &rec, SPACE, SPACE);
     // another right after the line's end
     noise(&mut rec, 0);
     put_tail(&mut rec, 0);
     put_tail(&mut rec, 354912);
-    edge(b"a tail right after a line's end", &rec, SPACE, SPACE);
+    edge(rt, b"a tail right after a line's end", &rec, SPACE, SPACE);
     // a tail inside noise of ones and zeros
     noise(&mut rec, 0x55);
     put_tail(&mut rec, 803);
-    edge(b"a tail inside noise", &rec, SPACE, SPACE);
+    edge(rt, b"a tail inside noise", &rec, SPACE, SPACE);
     edge(
-        b"a tail inside noise, pieces of 100 bytes",
+        rt, b"a tail inside noise, pieces of 100 bytes",
         &rec,
         SPACE,
         100,
     );
 }
 
-fn offset(o: usize, rec: &[u8; SPACE]) {
+fn offset(rt: &HostRuntime, o: usize, rec: &[u8; SPACE]) {
     seen(
+        rt,
         text::empty().words(b"offset ").number(o as u64),
         0,
         rec,
@@ -309,45 +326,45 @@ fn offset(o: usize, rec: &[u8; SPACE]) {
 }
 
 // Every bit of a byte as a line's start.
-fn offsets() {
+fn offsets(rt: &HostRuntime) {
     let mut o: usize = 0;
     while o < 8 {
         let mut rec = [0u8; SPACE];
         put_tail(&mut rec, o);
-        offset(o, &rec);
+        offset(rt, o, &rec);
         o += 1;
     }
 }
 
 // Tails with wrong bits, on both sides of the setting; and one in front of the exact tail, which is the first and wins.
-fn tails_at_edges() {
+fn tails_at_edges(rt: &HostRuntime) {
     let mut rec = [0u8; SPACE];
     put_wrong(&mut rec, 3);
-    edge_at(b"a tail with 3 wrong bits", 2, &rec, SPACE, SPACE);
-    edge_at(b"a tail with 3 wrong bits", 3, &rec, SPACE, SPACE);
+    edge_at(rt, b"a tail with 3 wrong bits", 2, &rec, SPACE, SPACE);
+    edge_at(rt, b"a tail with 3 wrong bits", 3, &rec, SPACE, SPACE);
     edge_at(
-        b"a tail with 3 wrong bits, one-byte pieces,",
+        rt, b"a tail with 3 wrong bits, one-byte pieces,",
         3,
         &rec,
         44364,
         1,
     );
     put_wrong(&mut rec, 6);
-    edge_at(b"a tail with 6 wrong bits", 5, &rec, SPACE, SPACE);
-    edge_at(b"a tail with 6 wrong bits", 6, &rec, SPACE, SPACE);
+    edge_at(rt, b"a tail with 6 wrong bits", 5, &rec, SPACE, SPACE);
+    edge_at(rt, b"a tail with 6 wrong bits", 6, &rec, SPACE, SPACE);
     put_wrong(&mut rec, 7);
-    edge_at(b"a tail with 7 wrong bits", 6, &rec, SPACE, SPACE);
+    edge_at(rt, b"a tail with 7 wrong bits", 6, &rec, SPACE, SPACE);
     put_wrong(&mut rec, 1);
     put_tail(&mut rec, 64);
     edge_at(
-        b"a tail with a wrong bit before the tail",
+        rt, b"a tail with a wrong bit before the tail",
         0,
         &rec,
         SPACE,
         SPACE,
     );
     edge_at(
-        b"a tail with a wrong bit before the tail",
+        rt, b"a tail with a wrong bit before the tail",
         1,
         &rec,
         SPACE,
@@ -356,72 +373,72 @@ fn tails_at_edges() {
 }
 
 // An empty piece.
-fn nothing() {
+fn nothing(rt: &HostRuntime) {
     let none = [0u8; 1];
     let mut line = [0u8; LINE];
     let a = reader::read(1, 0, reader_record::fresh(), &none[..0], &mut line);
     text::empty()
         .words(b"empty piece: taken ")
         .number(taken(a) as u64)
-        .write();
+        .write(rt);
 }
 
 // Refusals, both sides of each.
-fn refusals() {
+fn refusals(rt: &HostRuntime) {
     let s = reader_record::fresh();
-    asked(b"format 0", 0, s);
-    asked(b"format 1", 1, s);
-    asked(b"format 2", 2, s);
-    asked(b"format 3", 3, s);
-    asked(b"format 4", 4, s);
-    asked_short(b"buffer 44355", 1, 0, s);
-    asked(b"buffer 44356", 1, s);
-    asked(b"position 354847", 1, reading(354847, 32767, 0, 7, 0));
-    asked(b"position 354848", 1, reading(354848, 32767, 0, 0, 0));
-    asked(b"63 remembered bits", 1, searching(0, 63, 0, 0));
-    asked(b"64 remembered bits", 1, searching(0, 64, 0, 0));
-    asked(b"register 32767", 1, reading(0, 32767, 0, 0, 0));
-    asked(b"register 32768", 1, reading(0, 32768, 0, 0, 0));
-    asked(b"7 unread bits", 1, searching(0, 0, 127, 7));
-    asked(b"8 unread bits", 1, searching(0, 0, 255, 8));
-    asked(b"search bit 1 of 1", 1, searching(1, 1, 0, 0));
-    asked(b"search bits 2 of 1", 1, searching(2, 1, 0, 0));
+    asked(rt, b"format 0", 0, s);
+    asked(rt, b"format 1", 1, s);
+    asked(rt, b"format 2", 2, s);
+    asked(rt, b"format 3", 3, s);
+    asked(rt, b"format 4", 4, s);
+    asked_short(rt, b"buffer 44355", 1, 0, s);
+    asked(rt, b"buffer 44356", 1, s);
+    asked(rt, b"position 354847", 1, reading(354847, 32767, 0, 7, 0));
+    asked(rt, b"position 354848", 1, reading(354848, 32767, 0, 0, 0));
+    asked(rt, b"63 remembered bits", 1, searching(0, 63, 0, 0));
+    asked(rt, b"64 remembered bits", 1, searching(0, 64, 0, 0));
+    asked(rt, b"register 32767", 1, reading(0, 32767, 0, 0, 0));
+    asked(rt, b"register 32768", 1, reading(0, 32768, 0, 0, 0));
+    asked(rt, b"7 unread bits", 1, searching(0, 0, 127, 7));
+    asked(rt, b"8 unread bits", 1, searching(0, 0, 255, 8));
+    asked(rt, b"search bit 1 of 1", 1, searching(1, 1, 0, 0));
+    asked(rt, b"search bits 2 of 1", 1, searching(2, 1, 0, 0));
     asked(
-        b"remembered and unread bits together",
+        rt, b"remembered and unread bits together",
         1,
         searching(5, 3, 2, 2),
     );
-    asked(b"3 bits wait at position 11", 1, reading(11, 0, 7, 3, 0));
-    asked(b"2 bits wait at position 11", 1, reading(11, 0, 3, 2, 0));
-    asked(b"waiting bits 8 of 3", 1, reading(11, 0, 8, 3, 0));
-    asked(b"an unread bit inside a line", 1, reading(0, 0, 0, 0, 1));
+    asked(rt, b"3 bits wait at position 11", 1, reading(11, 0, 7, 3, 0));
+    asked(rt, b"2 bits wait at position 11", 1, reading(11, 0, 3, 2, 0));
+    asked(rt, b"waiting bits 8 of 3", 1, reading(11, 0, 8, 3, 0));
+    asked(rt, b"an unread bit inside a line", 1, reading(0, 0, 0, 0, 1));
     asked_short(
-        b"impossible record and short buffer",
+        rt, b"impossible record and short buffer",
         1,
         0,
         reading(0, 32768, 0, 0, 0),
     );
     asked(
-        b"unknown format and impossible record",
+        rt, b"unknown format and impossible record",
         4,
         reading(0, 32768, 0, 0, 0),
     );
-    asked_at(b"setting 6", 1, 6, s);
-    asked_at(b"setting 7", 1, 7, s);
-    asked_at(b"unknown format and setting 7", 4, 7, s);
+    asked_at(rt, b"setting 6", 1, 6, s);
+    asked_at(rt, b"setting 7", 1, 7, s);
+    asked_at(rt, b"unknown format and setting 7", 4, 7, s);
     asked_at(
-        b"setting 7 and impossible record",
+        rt, b"setting 7 and impossible record",
         1,
         7,
         reading(0, 32768, 0, 0, 0),
     );
-    asked_short(b"setting 7 and short buffer", 1, 7, s);
+    asked_short(rt, b"setting 7 and short buffer", 1, 7, s);
 }
 
-fn main() {
-    lines_at_edges();
-    offsets();
-    tails_at_edges();
-    nothing();
-    refusals();
+fn main(rt: HostRuntime) {
+    lines_at_edges(&rt);
+    offsets(&rt);
+    tails_at_edges(&rt);
+    nothing(&rt);
+    refusals(&rt);
 }

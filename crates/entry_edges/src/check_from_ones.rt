@@ -4,33 +4,33 @@ use crate::byte;
 use crate::entries_at_edges::told;
 
 // What `accepted` says of DOC in a format.
-fn doc(name: &[u8], format: u8, line: &[u8]) {
-    told(name, sectors::check::accepted(format, line, 1));
+fn doc(rt: &HostRuntime, name: &[u8], format: u8, line: &[u8]) {
+    told(rt, name, sectors::check::accepted(format, line, 1));
 }
 
 // The two bytes of the check word of DOC, behind 2 of the ID and 2,291 of the data.
-fn word(name: &[u8], line: &[u8; 44356]) {
+fn word(rt: &HostRuntime, name: &[u8], line: &[u8; 44356]) {
     text::empty()
         .words(name)
         .words(b": check word ")
         .number(byte(line[2293]))
         .words(b" ")
         .number(byte(line[2294]))
-        .write();
+        .write(rt);
 }
 
-pub fn all() {
+pub fn all(rt: &HostRuntime) {
     let mut line = [0u8; 44356];
-    doc(b"DOC of zeros in format 1", 1, &line);
-    doc(b"DOC of zeros in format 2", 2, &line);
-    doc(b"DOC of zeros in format 3", 3, &line);
+    doc(rt, b"DOC of zeros in format 1", 1, &line);
+    doc(rt, b"DOC of zeros in format 2", 2, &line);
+    doc(rt, b"DOC of zeros in format 3", 3, &line);
     let zeros = [0u8; 2291];
     told(
-        b"zeros put in format 3",
+        rt, b"zeros put in format 3",
         sector_writer::write::put_data(3, &mut line, 1, &zeros),
     );
-    word(b"zeros put in format 3", &line);
-    doc(b"with this word in format 1", 1, &line);
-    doc(b"with this word in format 2", 2, &line);
-    doc(b"with this word in format 3", 3, &line);
+    word(rt, b"zeros put in format 3", &line);
+    doc(rt, b"with this word in format 1", 1, &line);
+    doc(rt, b"with this word in format 2", 2, &line);
+    doc(rt, b"with this word in format 3", 3, &line);
 }

@@ -24,7 +24,7 @@ fn segments(place: u8, marks: u32) -> Row {
         text::empty(),
         b"|mapping #/25|orbit #/25|MANAM #/25|calibration-1 #/25|calibration-2 #/25|calibration-2 not in HiRID",
         place,
-        wide(u32::count_ones(marks)),
+        wide(marks.count_ones()),
         0,
     )
 }
@@ -56,10 +56,10 @@ fn foreign(row: Row, n: u64) -> Row {
 }
 
 // The row of a block.
-fn told(format: u8, k: Kept, number: u8, block: &[u8]) -> bool {
+fn told(rt: &HostRuntime, format: u8, k: Kept, number: u8, block: &[u8]) -> bool {
     let counted = segments(words_of(format, number), k.marks);
     let row = revised(counted, format, assembly_of(k), number, block);
-    foreign(row, k.foreign).write()
+    foreign(row, k.foreign).write(rt)
 }
 
 fn away(n: i16) -> u64 {
@@ -69,7 +69,7 @@ fn away(n: i16) -> u64 {
 // The words for degrees below 0 stand right behind those for the others.
 fn side(n: i16, place: u8) -> u8 {
     if n < 0 {
-        return std::num::wrapping_add_u8(place, 1);
+        return place.wrapping_add(1);
     }
     place
 }
@@ -89,7 +89,14 @@ fn say_grid(row: Row, g: Grid) -> Row {
     degrees(degrees(image, g.latitude, 0), g.longitude, 2)
 }
 
-fn point(format: u8, a: Assembly, block: &[u8], row: u16, column: u16) -> bool {
+fn point(
+    rt: &HostRuntime,
+    format: u8,
+    a: Assembly,
+    block: &[u8],
+    row: u16,
+    column: u16,
+) -> bool {
     let named = say(
         text::empty(),
         b"mapping row # column #",
@@ -98,17 +105,17 @@ fn point(format: u8, a: Assembly, block: &[u8], row: u16, column: u16) -> bool {
         column as u64,
     );
     match entries::mapping::mapping(format, a, block, row, column) {
-        Mapped::Is(g) => say_grid(named, g).write(),
-        Mapped::Refused(k) => named.refused(k).write(),
+        Mapped::Is(g) => say_grid(named, g).write(rt),
+        Mapped::Refused(k) => named.refused(k).write(rt),
     }
 }
 
-fn mapping(format: u8, a: Assembly, block: &[u8]) -> bool {
-    point(format, a, block, 0, 0)
-        && point(format, a, block, 0, 24)
-        && point(format, a, block, 24, 0)
-        && point(format, a, block, 24, 24)
-        && point(format, a, block, 12, 13)
+fn mapping(rt: &HostRuntime, format: u8, a: Assembly, block: &[u8]) -> bool {
+    point(rt, format, a, block, 0, 0)
+        && point(rt, format, a, block, 0, 24)
+        && point(rt, format, a, block, 24, 0)
+        && point(rt, format, a, block, 24, 24)
+        && point(rt, format, a, block, 12, 13)
 }
 
 fn say_r(row: Row, r: R) -> Row {
@@ -158,11 +165,11 @@ fn say_orbit(row: Row, block: &[u8]) -> Row {
     all
 }
 
-fn orbit(format: u8, a: Assembly, block: &[u8]) -> bool {
+fn orbit(rt: &HostRuntime, format: u8, a: Assembly, block: &[u8]) -> bool {
     let named = text::empty().words(b"orbit");
     match entries::orbit::elements(format, a, block) {
-        Orbital::Is(_) => say_orbit(named, block).write(),
-        Orbital::Refused(k) => named.refused(k).write(),
+        Orbital::Is(_) => say_orbit(named, block).write(rt),
+        Orbital::Refused(k) => named.refused(k).write(rt),
     }
 }
 
@@ -195,28 +202,29 @@ fn level_name(kind: u8, channel: u8, level: u16) -> Row {
     )
 }
 
-fn say_level(row: Row, l: Level) -> bool {
+fn say_level(rt: &HostRuntime, row: Row, l: Level) -> bool {
     match l {
-        Level::Is(x) => say_r(row, x.value).write(),
-        Level::Refused(k) => row.refused(k).write(),
+        Level::Is(x) => say_r(row, x.value).write(rt),
+        Level::Refused(k) => row.refused(k).write(rt),
     }
 }
 
 // Row i of 24: three levels of each of four channels, of the one kind and then of the other.
-fn level(format: u8, a: Assembly, block: &[u8], i: u8) -> bool {
+fn level(rt: &HostRuntime, format: u8, a: Assembly, block: &[u8], i: u8) -> bool {
     let kind = i / 12;
     let channel = i / 3 % 4 + 1;
     let n = level_at(3 * kind + i % 3);
     say_level(
+        rt,
         level_name(kind, channel, n),
         stands_for(format, a, block, kind, channel, n),
     )
 }
 
-fn levels(format: u8, a: Assembly, block: &[u8]) -> bool {
+fn levels(rt: &HostRuntime, format: u8, a: Assembly, block: &[u8]) -> bool {
     let mut i: u8 = 0;
     while i < 24 {
-        if !level(format, a, block, i) {
+        if !level(rt, format, a, block, i) {
             return false;
         }
         i += 1;
@@ -225,37 +233,50 @@ fn levels(format: u8, a: Assembly, block: &[u8]) -> bool {
 }
 
 // Some entries of a finished block.
-fn entries_of(format: u8, a: Assembly, number: u8, block: &[u8]) -> bool {
+fn entries_of(
+    rt: &HostRuntime,
+    format: u8,
+    a: Assembly,
+    number: u8,
+    block: &[u8],
+) -> bool {
     if a.marks.segments != ALL {
         return true;
     }
     match number {
-        MAPPING => mapping(format, a, block),
-        ORBIT => orbit(format, a, block),
-        CALIBRATION_2 => levels(format, a, block),
+        MAPPING => mapping(rt, format, a, block),
+        ORBIT => orbit(rt, format, a, block),
+        CALIBRATION_2 => levels(rt, format, a, block),
         _ => true,
     }
 }
 
 // The row of a block, or some of its entries. The other blocks stand behind it in what is lent.
-fn within(format: u8, k: Kept, number: u8, room: &[u8], asked: bool) -> bool {
+fn within(
+    rt: &HostRuntime,
+    format: u8,
+    k: Kept,
+    number: u8,
+    room: &[u8],
+    asked: bool,
+) -> bool {
     let from = place_of(number);
     if room.len() < from {
         return false;
     }
     if asked {
-        return entries_of(format, assembly_of(k), number, &room[from..]);
+        return entries_of(rt, format, assembly_of(k), number, &room[from..]);
     }
-    told(format, k, number, &room[from..])
+    told(rt, format, k, number, &room[from..])
 }
 
 // That of all five.
-fn each(format: u8, d: Five, room: &[u8], asked: bool) -> bool {
+fn each(rt: &HostRuntime, format: u8, d: Five, room: &[u8], asked: bool) -> bool {
     let kept = d.kept;
     let mut number: u8 = 1;
     while number < 6 {
         let i = number as usize;
-        if !within(format, kept[i], number, room, asked) {
+        if !within(rt, format, kept[i], number, room, asked) {
             return false;
         }
         number += 1;
@@ -264,6 +285,6 @@ fn each(format: u8, d: Five, room: &[u8], asked: bool) -> bool {
 }
 
 // All of it; whether it could be written.
-pub fn show(format: u8, d: Five, room: &[u8]) -> bool {
-    each(format, d, room, false) && each(format, d, room, true)
+pub fn show(rt: &HostRuntime, format: u8, d: Five, room: &[u8]) -> bool {
+    each(rt, format, d, room, false) && each(rt, format, d, room, true)
 }

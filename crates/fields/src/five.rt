@@ -81,7 +81,7 @@ fn refused(k: Kept, answer: u8) -> Kept {
         calibration: k.calibration,
         manam: k.manam,
         answer: answer,
-        foreign: std::num::wrapping_add_u64(k.foreign, foreign(answer)),
+        foreign: k.foreign.wrapping_add(foreign(answer)),
     }
 }
 
@@ -125,7 +125,7 @@ pub fn add(format: u8, d: Five, plain: &[u8], room: &mut [u8]) -> Five {
     }
     Five {
         kept: kept,
-        lines: std::num::wrapping_add_u64(d.lines, 1),
+        lines: d.lines.wrapping_add(1),
         written: true,
     }
 }

@@ -3,6 +3,8 @@
 //
 // What the numbers are is proved of `document`, `document_stamps`, `segments`, `entries` and `calibration`; of its own
 // functions it is proved that they are safe and end.
+#![tactic(auto)]
+
 ghost use Rattle.std.specs.Prelude.{◌-◌, ◌≤◌};
 ghost use Rattle.player.specs.Places.{Places};
 
@@ -35,24 +37,30 @@ const LINE: usize = 44356;
 const ROOM: usize = 47950;
 
 // The recording that the words ask for.
-fn opened(piece: &mut [u8; player::PIECE]) -> Player
+fn opened(rt: &HostRuntime, piece: &mut [u8; player::PIECE]) -> Player
     ensures { Places result }
 {
-    player::opened(&USAGE, piece)
+    player::opened(rt, &USAGE, piece)
 }
 
 // Where a line is complete, its segment to the blocks, and its row.
-fn heard(p: Player, d: Five, plain: &[u8; LINE], room: &mut [u8; ROOM]) -> Five {
+fn heard(
+    rt: &HostRuntime,
+    p: &Player,
+    d: Five,
+    plain: &[u8; LINE],
+    room: &mut [u8; ROOM],
+) -> Five {
     if !p.whole {
         return d;
     }
     let all = five::add(p.format, d, plain, room);
     let row = line::row(p.format, all.lines, plain);
-    all.told(five::answers(row, all).write())
+    all.told(five::answers(row, all).write(rt))
 }
 
 // The turns that are left: none at the recording's end, and none where a row could not be written.
-fn left(p: Player, d: Five, turns: u64) -> u64
+fn left(p: &Player, d: Five, turns: u64) -> u64
     ensures { result ≤ turns - 1 }
 {
     if turns == 0 {
@@ -68,29 +76,29 @@ fn left(p: Player, d: Five, turns: u64) -> u64
 }
 
 // The rows at the end.
-fn ended(p: Player, d: Five, room: &[u8; ROOM]) {
+fn ended(rt: &HostRuntime, p: &Player, d: Five, room: &[u8; ROOM]) {
     if !d.written {
         return;
     }
-    if !player::ended(p) {
+    if !player::ended(rt, p) {
         return;
     }
-    if blocks_at_end::show(p.format, d, room) {
-        text::empty().words(b"total ").number(d.lines).write();
+    if blocks_at_end::show(rt, p.format, d, room) {
+        text::empty().words(b"total ").number(d.lines).write(rt);
     }
 }
 
-fn main() {
+fn main(rt: HostRuntime) {
     let mut plain = [0u8; LINE];
     let mut piece = [0u8; player::PIECE];
     let mut room = [0u8; ROOM];
     let mut d = five::empty();
-    let mut p = opened(&mut piece);
-    let mut turns = left(p, d, u64::MAX);
+    let mut p = opened(&rt, &mut piece);
+    let mut turns = left(&p, d, u64::MAX);
     while turns > 0 {
-        p = player::next(p, &mut piece, &mut plain);
-        d = heard(p, d, &plain, &mut room);
-        turns = left(p, d, turns);
+        p = player::next(&rt, p, &mut piece, &mut plain);
+        d = heard(&rt, &p, d, &plain, &mut room);
+        turns = left(&p, d, turns);
     }
-    ended(p, d, &room);
+    ended(&rt, &p, d, &room);
 }

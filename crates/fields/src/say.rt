@@ -24,7 +24,7 @@ pub fn say(row: Row, list: &[u8], place: u8, n: u64, m: u64) -> Row {
     while i < list.len() {
         let b = list[i];
         if b == b'|' {
-            at = std::num::wrapping_add_u8(at, 1);
+            at = at.wrapping_add(1);
         } else if at == place {
             all = put(all, b, number);
             number = next(b, number, m);

@@ -2,6 +2,8 @@
 //
 // It keeps one line buffer and one piece of the recording, however long that is. What the lines and the sectors are is proved
 // of `reader` and `sectors`; of its own functions it is proved that they are safe and end.
+#![tactic(auto)]
+
 ghost use Rattle.std.specs.Prelude.{◌≤◌};
 
 use sectors::check::Counted;
@@ -38,7 +40,7 @@ fn row(format: u8, number: u64, line: &[u8]) -> text::Row {
     let mut fillers: u64 = 0;
     let mut sector: u8 = 1;
     while sector <= 12 {
-        fillers = std::num::wrapping_add_u64(fillers, filler(format, line, sector));
+        fillers = fillers.wrapping_add(filler(format, line, sector));
         sector += 1;
     }
     text::empty()
@@ -50,23 +52,23 @@ fn row(format: u8, number: u64, line: &[u8]) -> text::Row {
         .number(fillers)
 }
 
-fn main() {
+fn main(rt: HostRuntime) {
     let mut line = [0u8; 44356];
     let mut piece = [0u8; player::PIECE];
-    let mut p = player::opened(&USAGE, &mut piece);
+    let mut p = player::opened(&rt, &USAGE, &mut piece);
     let mut lines: u64 = 0;
     let mut turns = u64::MAX;
     while turns > 0 && p.more {
         turns -= 1;
-        p = player::next(p, &mut piece, &mut line);
+        p = player::next(&rt, p, &mut piece, &mut line);
         if p.whole {
-            lines = std::num::wrapping_add_u64(lines, 1);
-            if !row(p.format, lines, &line).write() {
+            lines = lines.wrapping_add(1);
+            if !row(p.format, lines, &line).write(&rt) {
                 return;
             }
         }
     }
-    if player::ended(p) {
-        text::empty().words(b"total ").number(lines).write();
+    if player::ended(&rt, &p) {
+        text::empty().words(b"total ").number(lines).write(&rt);
     }
 }

@@ -1,6 +1,8 @@
 // What a program says of a line: how many of its sectors are accepted, and the sum of its IR1 pixels of ten bits.
 //
 // What a sector and a pixel are is proved of `sectors` and `channels`; of these functions it is proved that they are safe and end.
+#![tactic(auto)]
+
 ghost use Rattle.std.specs.Prelude.{◌≤◌};
 
 use text::Row;
@@ -22,7 +24,7 @@ pub fn goods(format: u8, line: &[u8]) -> u64 {
     let mut n: u64 = 0;
     let mut i: usize = 0;
     while i < 12 {
-        n = std::num::wrapping_add_u64(n, good(answers[i]));
+        n = n.wrapping_add(good(answers[i]));
         i += 1;
     }
     n
@@ -38,7 +40,7 @@ fn sum(pixels: &[u16]) -> u64 {
     let mut n: u64 = 0;
     let mut i: usize = 0;
     while i < pixels.len() {
-        n = std::num::wrapping_add_u64(n, wide(pixels[i]));
+        n = n.wrapping_add(wide(pixels[i]));
         i += 1;
     }
     n

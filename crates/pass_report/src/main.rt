@@ -2,6 +2,8 @@
 //
 // It keeps one line buffer, one piece of the recording and one report, however long the recording is. What the lines are and
 // what their report is is proved of `reader` and `report`; of its own functions it is proved that they are safe and end.
+#![tactic(auto)]
+
 ghost use Rattle.std.specs.Prelude.{◌≤◌};
 
 use report_record::{Channel, Range, Report, Tally};
@@ -62,10 +64,10 @@ fn channel_row(channel: u64, c: Channel) -> text::Row {
 }
 
 // The twelve rows of the sectors; false where one cannot be written.
-fn sectors_written(r: Report) -> bool {
+fn sectors_written(rt: &HostRuntime, r: Report) -> bool {
     let mut i: usize = 0;
     while i < 12 {
-        if !sector_row(i as u64 + 1, r.sectors[i]).write() {
+        if !sector_row(i as u64 + 1, r.sectors[i]).write(rt) {
             return false;
         }
         i += 1;
@@ -74,10 +76,10 @@ fn sectors_written(r: Report) -> bool {
 }
 
 // The four rows of the channels.
-fn channels_written(r: Report) {
+fn channels_written(rt: &HostRuntime, r: Report) {
     let mut i: usize = 0;
     while i < 4 {
-        if !channel_row(i as u64 + 1, r.channels[i]).write() {
+        if !channel_row(i as u64 + 1, r.channels[i]).write(rt) {
             return;
         }
         i += 1;
@@ -85,44 +87,44 @@ fn channels_written(r: Report) {
 }
 
 // The whole report.
-fn write_report(r: Report) {
-    if !text::empty().words(b"lines ").number(r.lines).write() {
+fn write_report(rt: &HostRuntime, r: Report) {
+    if !text::empty().words(b"lines ").number(r.lines).write(rt) {
         return;
     }
-    if sectors_written(r) {
-        channels_written(r);
+    if sectors_written(rt, r) {
+        channels_written(rt, r);
     }
 }
 
 // A line that the report does not take.
-fn tell_refused(lines: u64, k: u8) {
+fn tell_refused(rt: &HostRuntime, lines: u64, k: u8) {
     text::empty()
         .words(b"line ")
-        .number(std::num::wrapping_add_u64(lines, 1))
+        .number(lines.wrapping_add(1))
         .words(b" is one more than a report takes:")
         .refused(k)
-        .tell();
+        .tell(rt);
 }
 
-fn main() {
+fn main(rt: HostRuntime) {
     let mut line = [0u8; 44356];
     let mut piece = [0u8; player::PIECE];
-    let mut p = player::opened(&USAGE, &mut piece);
+    let mut p = player::opened(&rt, &USAGE, &mut piece);
     let mut r = report::empty();
     let mut turns = u64::MAX;
     while turns > 0 && p.more {
         turns -= 1;
-        p = player::next(p, &mut piece, &mut line);
+        p = player::next(&rt, p, &mut piece, &mut line);
         if p.whole {
             let a = report::with_line(p.format, r, &line);
             if a.refused != 0 {
-                tell_refused(r.lines, a.refused);
+                tell_refused(&rt, r.lines, a.refused);
                 return;
             }
             r = a.report;
         }
     }
-    if player::ended(p) {
-        write_report(r);
+    if player::ended(&rt, &p) {
+        write_report(&rt, r);
     }
 }

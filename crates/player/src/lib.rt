@@ -6,22 +6,44 @@
 //
 // A program has no exit status. So a recording that cannot be opened or read to its end is told on standard error and is
 // `failed`, and the program keeps back its last line, `total N`.
+#![tactic(auto)]
+
 ghost use Rattle.std.specs.Prelude.{◌≡◌, ◌≤◌};
 ghost use Rattle.player.specs.Places.{Places, started};
 
-use libc::STDIN_FILENO;
 use reader_line::Answer;
 use reader_record::State;
+use std::fs::File;
+use std::io;
+use std::io::{Read, Stdin};
 use words::{Asked, Takes};
 
 // The bytes of one piece.
 pub const PIECE: usize = 65536;
 
-// Where the playing stands: the file, the format, the setting, the reader's record, the bytes of the piece that are still to read, and
+// The library opens names that are UTF-8 alone. Of another one the system's error for bytes that are no text is told (EILSEQ).
+const NO_TEXT: i32 = 84;
+
+// Where the bytes of a recording come from.
+#[derive(Drop)]
+pub enum Source {
+    Standard(Stdin),
+    Named(File),
+}
+
+// The next bytes of it, in one call of the system's.
+fn read(source: &mut Source, piece: &mut [u8; PIECE]) -> io::Result<usize> {
+    match source {
+        Source::Standard(stdin) => stdin.read(piece),
+        Source::Named(file) => file.read(piece),
+    }
+}
+
+// Where the playing stands: the source, the format, the setting, the reader's record, the bytes of the piece that are still to read, and
 // whether a line is complete (whole), the recording is at its end (not more), and that is not its own end (failed).
-#[derive(Clone, Copy)]
+#[derive(Drop)]
 pub struct Player {
-    pub fd: i32,
+    pub source: Source,
     pub format: u8,
     pub setting: u8,
     pub state: State,
@@ -33,11 +55,11 @@ pub struct Player {
 }
 
 // A recording from its first byte.
-pub fn start(fd: i32, format: u8, setting: u8) -> Player
-    ensures { result ≡ started fd format setting }
+pub fn start(source: Source, format: u8, setting: u8) -> Player
+    ensures { result ≡ started source format setting }
 {
     Player {
-        fd: fd,
+        source: source,
         format: format,
         setting: setting,
         state: reader_record::fresh(),
@@ -55,7 +77,7 @@ fn moved(p: Player, state: State, from: usize, to: usize, whole: bool, more: boo
     ensures { Places result }
 {
     Player {
-        fd: p.fd,
+        source: p.source,
         format: p.format,
         setting: p.setting,
         state: state,
@@ -73,7 +95,7 @@ fn broken(p: Player) -> Player
 {
     let state = p.state;
     Player {
-        fd: p.fd,
+        source: p.source,
         format: p.format,
         setting: p.setting,
         state: state,
@@ -86,34 +108,35 @@ fn broken(p: Player) -> Player
 }
 
 // The piece that a read has brought; nothing is the recording's end.
-fn brought(p: Player, got: isize, piece: &[u8; PIECE]) -> Player
+fn brought(p: Player, got: usize) -> Player
     ensures { Places result }
 {
     let state = p.state;
-    if got <= 0 {
+    if got == 0 {
         return moved(p, state, 0, 0, false, false);
     }
-    let n = io::count(got, piece);
-    if PIECE < n {
+    if PIECE < got {
         return moved(p, state, 0, 0, false, false);
     }
-    moved(p, state, 0, n, false, true)
+    moved(p, state, 0, got, false, true)
 }
 
 // The next piece.
-fn refill(p: Player, piece: &mut [u8; PIECE]) -> Player
+fn refill(rt: &HostRuntime, p: Player, piece: &mut [u8; PIECE]) -> Player
     ensures { Places result }
 {
-    let got = libc::read(p.fd, piece);
-    if got < 0 {
-        os::fail(b"the recording broke off");
-        return broken(p);
+    let mut q = p;
+    match read(&mut q.source, piece) {
+        Ok(got) => brought(q, got),
+        Err(error) => {
+            text::fail(rt, b"the recording broke off", &error);
+            broken(q)
+        }
     }
-    brought(p, got, piece)
 }
 
 // One call of the reader. A refused one, of which there is none with a full-size line buffer, breaks it off.
-fn step(p: Player, piece: &[u8], line: &mut [u8]) -> Player
+fn step(rt: &HostRuntime, p: Player, piece: &[u8], line: &mut [u8]) -> Player
     requires { Places p }
     ensures { Places result }
 {
@@ -125,7 +148,7 @@ fn step(p: Player, piece: &[u8], line: &mut [u8]) -> Player
     }
     match reader::read(p.format, p.setting, before, &piece[from..to], line) {
         Answer::Refused(k) => {
-            text::empty().words(b"the reader").refused(k).tell();
+            text::empty().words(b"the reader").refused(k).tell(rt);
             broken(p)
         }
         Answer::More { taken, state } => on(p, state, taken, false),
@@ -147,11 +170,11 @@ fn on(p: Player, state: State, taken: usize, whole: bool) -> Player
 }
 
 // Inner, for the programs. On to the next line that is complete, or to the recording's end; p is as `opened` or `next` left it.
-pub fn next(p: Player, piece: &mut [u8; PIECE], line: &mut [u8]) -> Player
+pub fn next(rt: &HostRuntime, p: Player, piece: &mut [u8; PIECE], line: &mut [u8]) -> Player
     requires { Places p }
     ensures { Places result }
 {
-    let mut q = turn(p, piece, line);
+    let mut q = turn(rt, p, piece, line);
     let mut turns = u64::MAX;
     while turns > 0 {
         if q.whole {
@@ -160,120 +183,158 @@ pub fn next(p: Player, piece: &mut [u8; PIECE], line: &mut [u8]) -> Player
         if !q.more {
             return q;
         }
-        q = turn(q, piece, line);
+        q = turn(rt, q, piece, line);
         turns -= 1;
     }
     q
 }
 
 // A new piece where the last one is used up, else one call of the reader.
-fn turn(p: Player, piece: &mut [u8; PIECE], line: &mut [u8]) -> Player
+fn turn(rt: &HostRuntime, p: Player, piece: &mut [u8; PIECE], line: &mut [u8]) -> Player
     requires { Places p }
     ensures { Places result }
 {
     if p.from == p.to {
-        return refill(p, piece);
+        return refill(rt, p, piece);
     }
-    step(p, piece, line)
+    step(rt, p, piece, line)
 }
 
 // A recording that is not played: the words ask for none, or it cannot be opened.
-fn none() -> Player
+fn none(rt: &HostRuntime) -> Player
     ensures { Places result }
 {
-    broken(start(STDIN_FILENO, 1, 0))
+    broken(start(Source::Standard(rt.stdin()), 1, 0))
 }
 
 // A recording of a name, which tells it where its first piece cannot be read: a folder opens as a file does.
-fn begun(fd: i32, format: u8, setting: u8, name: &[u8], piece: &mut [u8; PIECE]) -> Player
+fn begun(
+    rt: &HostRuntime,
+    source: Source,
+    format: u8,
+    setting: u8,
+    name: &[u8],
+    piece: &mut [u8; PIECE],
+) -> Player
     ensures { Places result }
 {
-    let got = libc::read(fd, piece);
-    if got < 0 {
-        os::fail(name);
-        return none();
+    let mut opened = source;
+    match read(&mut opened, piece) {
+        Ok(got) => brought(start(opened, format, setting), got),
+        Err(error) => {
+            text::fail(rt, name, &error);
+            none(rt)
+        }
     }
-    brought(start(fd, format, setting), got, piece)
 }
 
-fn standard(format: u8, setting: u8, piece: &mut [u8; PIECE]) -> Player
+fn standard(rt: &HostRuntime, format: u8, setting: u8, piece: &mut [u8; PIECE]) -> Player
     ensures { Places result }
 {
-    begun(STDIN_FILENO, format, setting, b"standard input", piece)
+    let source = Source::Standard(rt.stdin());
+    begun(rt, source, format, setting, b"standard input", piece)
+}
+
+// A file by its name, which is the bytes of a word.
+fn opened_file(rt: &HostRuntime, name: &[u8]) -> io::Result<File> {
+    match std::str::from_utf8(name) {
+        Ok(path) => File::open(rt, path),
+        Err(_) => Err(io::Error::from_raw_os_error(NO_TEXT)),
+    }
 }
 
 // The recording of a file; standard input where its name is a minus sign.
-fn of_file(name: &[u8], format: u8, setting: u8, piece: &mut [u8; PIECE]) -> Player
+fn of_file(
+    rt: &HostRuntime,
+    name: &[u8],
+    format: u8,
+    setting: u8,
+    piece: &mut [u8; PIECE],
+) -> Player
     ensures { Places result }
 {
     if name.len() == 1 {
         if name[0] == b'-' {
-            return standard(format, setting, piece);
+            return standard(rt, format, setting, piece);
         }
     }
-    let fd = os::open_read(name);
-    if fd < 0 {
-        os::fail(name);
-        return none();
+    match opened_file(rt, name) {
+        Ok(file) => begun(rt, Source::Named(file), format, setting, name, piece),
+        Err(error) => {
+            text::fail(rt, name, &error);
+            none(rt)
+        }
     }
-    begun(fd, format, setting, name, piece)
 }
 
 // The file that the word at a place names.
-fn of_word(place: usize, format: u8, setting: u8, piece: &mut [u8; PIECE]) -> Player
+fn of_word(
+    rt: &HostRuntime,
+    place: usize,
+    format: u8,
+    setting: u8,
+    piece: &mut [u8; PIECE],
+) -> Player
     ensures { Places result }
 {
-    let mut name = io::buffer();
-    let n = os::arg(place, &mut name);
-    of_file(&name[..n], format, setting, piece)
+    let mut name = [0u8; command::WORD];
+    let n = command::word_at(rt, place, &mut name);
+    of_file(rt, &name[..n], format, setting, piece)
 }
 
 // The recording that the words ask for, [-2] [-s K] [FILE] in any order, with its first piece. Not more where they are not
 // served, help is asked for, or the file cannot be read; that is then told, with the usage text where it is the words.
-pub fn opened(usage: &[u8], piece: &mut [u8; PIECE]) -> Player
+pub fn opened(rt: &HostRuntime, usage: &[u8], piece: &mut [u8; PIECE]) -> Player
     ensures { Places result }
 {
-    let asked = command::asked_for(Takes {
+    let takes = Takes {
         names: 1,
         setting: true,
-    });
-    if !command::goes_on(asked, usage) {
-        return none();
+    };
+    let asked = command::asked_for(rt, takes);
+    if !command::goes_on(rt, asked, usage) {
+        return none(rt);
     }
-    named(asked, asked.first, usage, piece)
+    named(rt, asked, asked.first, usage, piece)
 }
 
 // The recording that the word at a place names, of words that are served; standard input where there is none.
-pub fn named(asked: Asked, place: usize, usage: &[u8], piece: &mut [u8; PIECE]) -> Player
+pub fn named(
+    rt: &HostRuntime,
+    asked: Asked,
+    place: usize,
+    usage: &[u8],
+    piece: &mut [u8; PIECE],
+) -> Player
     ensures { Places result }
 {
-    let setting = command::setting_at(asked.setting);
+    let setting = command::setting_at(rt, asked.setting);
     if reader_refusals::LARGEST_SETTING < setting {
-        command::refuse_word(b"not a setting, 0 to 6: ", asked.setting, usage);
-        return none();
+        command::refuse_word(rt, b"not a setting, 0 to 6: ", asked.setting, usage);
+        return none(rt);
     }
     if place == 0 {
-        return standard(asked.format, setting, piece);
+        return standard(rt, asked.format, setting, piece);
     }
-    of_word(place, asked.format, setting, piece)
+    of_word(rt, place, asked.format, setting, piece)
 }
 
 // Whether the recording was read to its own end. One that stops inside a line is told.
-pub fn ended(p: Player) -> bool {
+pub fn ended(rt: &HostRuntime, p: &Player) -> bool {
     if p.failed {
         return false;
     }
     let s = p.state;
     if s.in_line {
-        unfinished(s.position);
+        unfinished(rt, s.position);
     }
     true
 }
 
-fn unfinished(bits: usize) {
+fn unfinished(rt: &HostRuntime, bits: usize) {
     text::empty()
         .words(b"an unfinished line, ")
         .number(bits as u64)
         .words(b" of 354848 bits")
-        .tell();
+        .tell(rt);
 }

@@ -3,9 +3,12 @@
 //
 // The program only makes bytes and hands them on: what a sector and a line on the wire are is proved of `sector_writer` and
 // `writer`. Of its own functions it is proved that they are safe and end.
+#![tactic(auto)]
+
 ghost use Rattle.std.specs.Prelude.{◌*◌, ◌+◌, ◌≤◌, ◌<◌};
 
-use libc::STDOUT_FILENO;
+use std::io;
+use std::io::Print;
 use words::{Asked, Takes};
 use writer::Written;
 
@@ -21,48 +24,53 @@ Writes a training recording of N lines, 0 to 1000000, to standard output; 10 whe
 Standard error says `total N` where all of it was written.
 ";
 
-// The first bytes of a line on the wire to standard output; false where they cannot be written.
-fn send(wire: &[u8], bytes: usize) -> bool {
+// No call of the system's has failed: that of a line that was not made.
+fn unmade() -> io::Error {
+    io::Error::from_raw_os_error(0)
+}
+
+// The first bytes of a line on the wire to standard output.
+fn send(rt: &HostRuntime, wire: &[u8], bytes: usize) -> io::Result<()> {
     if wire.len() < bytes {
-        return false;
+        return Err(unmade());
     }
-    io::write_all(STDOUT_FILENO, &wire[..bytes])
+    rt.write_all(&wire[..bytes])
 }
 
 // Line k of the pattern, made and sent, with w wrong bits and new tables from line t on.
-fn one(format: u8, k: u64, w: u64, t: u64) -> bool
+fn one(rt: &HostRuntime, format: u8, k: u64, w: u64, t: u64) -> io::Result<()>
     requires { (k < 1000000) × (w ≤ 64) }
 {
     let mut line = [0u8; 44356];
     let mut wire = [0u8; 49500];
     pattern::fill(format, k, t, &mut line);
     match writer::write_line(format, &line, &mut wire) {
-        Written::Refused(_) => false,
+        Written::Refused(_) => Err(unmade()),
         Written::Put(bytes) => {
             wrong::put(format, k, w, &mut wire);
-            send(&wire, bytes)
+            send(rt, &wire, bytes)
         }
     }
 }
 
 // n lines, up to the first that cannot be written. The recording has no room for a last line of text: it is told.
-fn play(format: u8, n: u64, w: u64, t: u64)
+fn play(rt: &HostRuntime, format: u8, n: u64, w: u64, t: u64)
     requires { (n ≤ 1000000) × (w ≤ 64) }
 {
     let mut k: u64 = 0;
     while k < n {
-        if !one(format, k, w, t) {
-            os::fail(b"standard output");
+        if let Err(error) = one(rt, format, k, w, t) {
+            text::fail(rt, b"standard output", &error);
             return;
         }
         k += 1;
     }
-    text::empty().words(b"total ").number(n).tell();
+    text::empty().words(b"total ").number(n).tell(rt);
 }
 
 // The format that the words ask for; 0 where they do not agree.
-fn format_of(asked: Asked) -> u64 {
-    let format = command::number_at(asked.second, asked.format as u64);
+fn format_of(rt: &HostRuntime, asked: Asked) -> u64 {
+    let format = command::number_at(rt, asked.second, asked.format as u64);
     if asked.format != 1 && format != asked.format as u64 {
         return 0;
     }
@@ -70,58 +78,62 @@ fn format_of(asked: Asked) -> u64 {
 }
 
 // n lines in a format with w wrong bits, and the new tables that the words ask for.
-fn renewed(format: u8, n: u64, w: u64, asked: Asked)
+fn renewed(rt: &HostRuntime, format: u8, n: u64, w: u64, asked: Asked)
     requires { (n ≤ 1000000) × (w ≤ 64) }
 {
-    let t = command::number_at(asked.fourth, 0);
+    let t = command::number_at(rt, asked.fourth, 0);
     if words::MOST < t {
         command::refuse_word(
+            rt,
             b"not the line of new tables, 0 to 1000000: ",
             asked.fourth,
             &USAGE,
         );
         return;
     }
-    play(format, n, w, t);
+    play(rt, format, n, w, t);
 }
 
 // n lines in a format, with the wrong bits and the new tables that the words ask for.
-fn damaged(format: u8, n: u64, asked: Asked)
+fn damaged(rt: &HostRuntime, format: u8, n: u64, asked: Asked)
     requires { n ≤ 1000000 }
 {
-    let w = command::number_at(asked.third, 0);
+    let w = command::number_at(rt, asked.third, 0);
     if wrong::MOST < w {
         command::refuse_word(
+            rt,
             b"not a number of wrong bits, 0 to 64: ",
             asked.third,
             &USAGE,
         );
         return;
     }
-    renewed(format, n, w, asked);
+    renewed(rt, format, n, w, asked);
 }
 
-fn main() {
-    let asked = command::asked_for(Takes {
+fn main(rt: HostRuntime) {
+    let takes = Takes {
         names: 4,
         setting: false,
-    });
-    if !command::goes_on(asked, &USAGE) {
+    };
+    let asked = command::asked_for(&rt, takes);
+    if !command::goes_on(&rt, asked, &USAGE) {
         return;
     }
-    let lines = command::number_at(asked.first, 10);
+    let lines = command::number_at(&rt, asked.first, 10);
     if words::MOST < lines {
         command::refuse_word(
+            &rt,
             b"not a number of lines, 0 to 1000000: ",
             asked.first,
             &USAGE,
         );
         return;
     }
-    match format_of(asked) {
-        1 => damaged(1, lines, asked),
-        2 => damaged(2, lines, asked),
-        3 => damaged(3, lines, asked),
-        _ => command::refuse_word(b"not the format, 1 to 3: ", asked.second, &USAGE),
+    match format_of(&rt, asked) {
+        1 => damaged(&rt, 1, lines, asked),
+        2 => damaged(&rt, 2, lines, asked),
+        3 => damaged(&rt, 3, lines, asked),
+        _ => command::refuse_word(&rt, b"not the format, 1 to 3: ", asked.second, &USAGE),
     }
 }
