@@ -2,13 +2,8 @@
 
 use std::path::Path;
 
-use crate::model::{Boundary, PREFIX};
+use crate::model::Boundary;
 use crate::tools::ran;
-
-/// Names beside those of the boundary, by their beginnings, that an archive
-/// may give: those of `library/near`, which another processor than x86-64
-/// needs.
-const OTHERS: [&str; 2] = ["near_", "far_"];
 
 /// A line for each difference between an archive's names and the source.
 pub fn compared(boundary: &Boundary, archive: &Path) -> Result<Vec<String>, String> {
@@ -44,8 +39,7 @@ pub fn names(boundary: &Boundary, archive: &str, listing: &str) -> Vec<String> {
     }
     for (name, _) in &rows {
         let known = boundary.functions.iter().any(|f| f.name == *name);
-        let other = OTHERS.iter().any(|o| name.starts_with(o)) && !name.starts_with(PREFIX);
-        if !known && !other {
+        if !known {
             out.push(format!("{archive} gives {name}, which the source does not"));
         }
     }

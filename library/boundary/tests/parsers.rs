@@ -158,7 +158,11 @@ fn what_is_not_read_is_an_error() {
             "pub extern \"C\" fn hansobrik_none",
             "without",
         ),
-        ("#[unsafe(no_mangle)]\npub", "#[no_mangle]\npub", "`no_mangle`"),
+        (
+            "#[unsafe(no_mangle)]\npub",
+            "#[no_mangle]\npub",
+            "`no_mangle`",
+        ),
         (
             "#[repr(C)]\npub struct Reader",
             "#[repr(C, packed)]\npub struct Reader",
