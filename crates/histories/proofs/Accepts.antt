@@ -1,17 +1,15 @@
 -- When a call is accepted: a count in range, a possible desk, an area with room, and what is asked for is there. Assumes nothing.
-use mathlib.Core.Bool.{Bool, true, false, ◌&&◌, not}
-use mathlib.Core.Path.{◌≡◌, refl, sym, ap, ◌∙◌}
-use Prim.Native.Nat.{ℕ, suc, ◌*◌, ◌≤◌, ◌<◌}
-use native.Mathlib.Omega.{arith}
-use borrow.Author.Tests.{le-leb, lt-leb, le-ltb, eq-eqb}
-use lib.Dec.{leb, ltb}
+use mathlib.Core.Bool.{true}
+use mathlib.Core.Path.{◌≡◌, refl, ◌∙◌}
+use Prim.Native.Nat.{ℕ, ◌*◌, ◌≤◌, ◌<◌}
+use borrow.Author.Tests.{lt-leb, le-ltb, eq-eqb}
 use Rattle.formats.specs.Formats.{line_bytes}
 use Rattle.refusals.specs.Refusals.{first, when, short_of}
 use Rattle.refusals.proofs.Words.{within}
-use Rattle.desk_record.specs.declared.Use.TheVariants.{Free, Filling, Held}
+use Rattle.desk_record.specs.declared.Use.TheVariants.{Filling}
 use Rattle.desk_record.specs.declared.Desk.{Desk}
 use Rattle.desk_record.specs.Slots.{slot_of, held_by}
-use Rattle.desk_record.specs.Desks.{possible_of, lowest_of, last_serial}
+use Rattle.desk_record.specs.Desks.{possible_of}
 use Rattle.desk_refusals.specs.Asked.{count_refusal, slot_refusal, rest_refusal, none_refusal, take_refusal, publish_refusal, release_refusal}
 use Rattle.desk.specs.Calls.{take_answer, publish_answer, release_answer}
 use Rattle.histories.proofs.Steps.{take_number, publish_number, release_number}

@@ -1,7 +1,7 @@
 -- WHAT ONE CONSUMER RELEASES ALTERS NOTHING THAT THE OTHER MAY READ: a look that is served before is served after, and points to the same
 -- part of the area. Assumes nothing.
 use mathlib.Core.Bool.{Bool, true, false}
-use mathlib.Core.Path.{◌≡◌, refl, sym, ap, subst, ◌∙◌}
+use mathlib.Core.Path.{◌≡◌, refl, sym, ap, ◌∙◌}
 use Prim.Native.Nat.{ℕ}
 use borrow.Author.Tests.{eqb-true, eqb-false}
 use lib.Dec.{eqb}

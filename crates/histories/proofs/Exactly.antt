@@ -1,6 +1,6 @@
 -- The history theorem by cases: free, filling and held, each exactly. Assumes nothing.
-use mathlib.Core.Bool.{Bool, true, false, cond, ◌&&◌, not, false≢true, true≢false}
-use mathlib.Core.List.{List, [], ◌∷◌}
+use mathlib.Core.Bool.{Bool, true, false, cond, ◌&&◌, not, false≢true}
+use mathlib.Core.List.{List}
 use mathlib.Core.Logic.{◌↔◌, ◌⊎◌, inl, inr}
 use mathlib.Core.Option.{Option, none, some}
 use mathlib.Core.Path.{◌≡◌, refl, sym, ap, ◌∙◌}
@@ -11,8 +11,7 @@ use lib.Dec.{eqb}
 use Rattle.desk_record.specs.declared.Use.{Use}
 use Rattle.desk_record.specs.declared.Use.TheVariants.{Free, Filling, Held}
 use Rattle.desk_record.specs.declared.Desk.{Desk}
-use Rattle.desk_record.specs.Slots.{slot_of, is_free, of_both, held_by, held_or, let_go}
-use Rattle.desk_record.specs.Desks.{with_slot, taken_desk, empty_desk}
+use Rattle.desk_record.specs.Slots.{slot_of, is_free, of_both, held_by, held_or}
 use Rattle.histories.specs.Histories.{Done, History, last_take, since, is_published, is_released, use_since, used_by, how_many, is_filling, is_held, Gone, Waiting, Keeps}
 use Rattle.histories.proofs.Past.{slot_history, held_or_filling}
 use Rattle.histories.proofs.Steps.{always}

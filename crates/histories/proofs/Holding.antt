@@ -1,8 +1,8 @@
 -- A HOLD STAYS until its own release: no take, no publish and no release by another, of another slot or under another serial
 -- ends it, accepted or refused; and its own release does. Assumes nothing.
-use mathlib.Core.Bool.{Bool, true, false, false≢true, true≢false, ◌&&◌}
-use mathlib.Core.Path.{◌≡◌, refl, sym, ap, ◌∙◌}
-use Prim.Native.Nat.{ℕ, suc, ◌<◌}
+use mathlib.Core.Bool.{Bool, true, false, false≢true}
+use mathlib.Core.Path.{◌≡◌, refl, sym, ◌∙◌}
+use Prim.Native.Nat.{ℕ, suc}
 use native.Mathlib.Omega.{arith}
 use borrow.Author.Tests.{eqb-true, eqb-false}
 use lib.Dec.{eqb}
@@ -10,8 +10,8 @@ use lib.ListN.{length}
 use Rattle.desk_record.specs.declared.Use.{Use}
 use Rattle.desk_record.specs.declared.Use.TheVariants.{Free, Filling, Held}
 use Rattle.desk_record.specs.declared.Desk.{Desk}
-use Rattle.desk_record.specs.Slots.{slot_of, of_both, held_by, let_go}
-use Rattle.desk_record.specs.Desks.{lowest_of, with_slot, taken_desk}
+use Rattle.desk_record.specs.Slots.{slot_of, held_by, let_go}
+use Rattle.desk_record.specs.Desks.{lowest_of}
 use Rattle.desk.specs.Calls.{take_answer, publish_answer, release_answer}
 use Rattle.histories.proofs.Once.{let_gone}
 use Rattle.histories.proofs.Others.{release_leaves}

@@ -1,8 +1,8 @@
 -- NO DOUBLE RELEASE: a release of slot i under serial n by consumer c is accepted at most once in any history. Assumes nothing.
-use mathlib.Core.Bool.{Bool, true, false, cond, ◌&&◌, ◌||◌, not, false≢true, true≢false}
+use mathlib.Core.Bool.{Bool, true, false, ◌&&◌, ◌||◌, not, false≢true, true≢false}
 use mathlib.Core.List.{List, [], ◌∷◌}
-use mathlib.Core.Path.{◌≡◌, refl, sym, ap, ◌∙◌}
-use Prim.Native.Nat.{ℕ, zero, suc, ◌+◌, ◌≤◌, ◌<◌}
+use mathlib.Core.Path.{◌≡◌, refl, sym, ◌∙◌}
+use Prim.Native.Nat.{ℕ, suc, ◌≤◌, ◌<◌}
 use native.Mathlib.Omega.{arith}
 use borrow.Author.Tests.{eqb-true, eqb-false, eq-eqb, ne_eqb}
 use lib.Dec.{eqb}
@@ -15,7 +15,7 @@ use Rattle.desk_record.specs.Desks.{lowest_of, with_slot, taken_desk, empty_desk
 use Rattle.desk.specs.Calls.{release_answer}
 use Rattle.histories.specs.Histories.{Done, took, published, released, History, is_released}
 use Rattle.histories.proofs.Others.{others_hold}
-use Rattle.histories.proofs.Past.{empty_slot, held_serial}
+use Rattle.histories.proofs.Past.{held_serial}
 use Rattle.desk_refusals.proofs.Served.{TakeServed, SlotServed}
 use Rattle.histories.proofs.StaysPossible.{possible_means, sound_serial}
 use Rattle.histories.proofs.Steps.{slot_same, slot_other, released_it, always}

@@ -1,20 +1,19 @@
 -- THE HISTORY SAYS WHAT EACH SLOT IS USED FOR: after any calls from an empty desk, slot i is free exactly where it was never
 -- taken, or its last line was since published and released by both; likewise for filling and for each holder. Assumes nothing.
-use mathlib.Core.Bool.{Bool, true, false, cond, ◌&&◌, ◌||◌, not, false≢true, true≢false}
+use mathlib.Core.Bool.{Bool, true, false, cond, ◌&&◌, ◌||◌, not, false≢true}
 use mathlib.Core.List.{List, [], ◌∷◌}
-use mathlib.Core.Logic.{◌↔◌}
 use mathlib.Core.Option.{Option, none, some}
-use mathlib.Core.Path.{subst, ◌≡◌, refl, sym, ap, ap₂, ◌∙◌}
+use mathlib.Core.Path.{subst, ◌≡◌, refl, sym, ap, ◌∙◌}
 use Prim.Native.Nat.{ℕ, zero, suc, ◌<◌}
 use native.Mathlib.Omega.{arith}
-use borrow.Author.Tests.{eqb-true, eqb-false, eq-eqb, not-true, not-false}
+use borrow.Author.Tests.{eqb-true, eqb-false, eq-eqb}
 use lib.Dec.{eqb}
 use lib.ListN.{length, get_or, replicate}
 use Rattle.desk_record.specs.declared.Use.{Use}
 use Rattle.desk_record.specs.declared.Use.TheVariants.{Free, Filling, Held}
 use Rattle.desk_record.specs.declared.Slot.{Slot}
 use Rattle.desk_record.specs.declared.Desk.{Desk}
-use Rattle.desk_record.specs.Slots.{free_slot, slot_of, is_free, of_both, held_by, held_or, let_go}
+use Rattle.desk_record.specs.Slots.{free_slot, slot_of, of_both, held_by, held_or, let_go}
 use Rattle.desk_record.specs.Desks.{lowest_of, with_slot, taken_desk, empty_desk}
 use Rattle.histories.specs.Histories.{Done, took, published, released, History, last_take, since, is_published, is_released, use_since, used_by}
 use Rattle.desk_refusals.proofs.Served.{TakeServed, SlotServed}

@@ -1,22 +1,21 @@
 -- WHICH DESKS ARE POSSIBLE, without the loop: each slot sound by itself, and no serial in two busy ones; and that no call leads
 -- from a possible desk to an impossible one, so that from an empty desk 12 never comes. Assumes nothing.
-use mathlib.Core.Bool.{Bool, true, false, cond, ◌&&◌, ◌||◌, not, false≢true, true≢false}
-use mathlib.Core.List.{List, [], ◌∷◌}
-use mathlib.Core.Logic.{◌↔◌, ◌⊎◌, inl, inr}
+use mathlib.Core.Bool.{Bool, true, false, ◌&&◌, ◌||◌, not, false≢true, true≢false}
+use mathlib.Core.List.{List}
+use mathlib.Core.Logic.{◌⊎◌, inl, inr}
 use mathlib.Core.Path.{◌≡◌, refl, sym, ap, ◌∙◌}
 use Prim.Native.Nat.{ℕ, zero, suc, ◌+◌, ◌≤◌, ◌<◌}
 use native.Mathlib.Omega.{arith}
-use borrow.Author.Tests.{eqb-true, eqb-false, eq-eqb, ne_eqb, ltb-true, leb-true, lt-ltb, le-leb, not-true, not-false}
+use borrow.Author.Tests.{eqb-true, eqb-false, ne_eqb, leb-true, lt-ltb, le-leb, not-true}
 use lib.Dec.{leb, ltb, eqb}
 use lib.ListN.{length}
 use Rattle.desk_record.specs.declared.Use.{Use}
 use Rattle.desk_record.specs.declared.Use.TheVariants.{Free, Filling, Held}
 use Rattle.desk_record.specs.declared.Desk.{Desk}
-use Rattle.desk_record.specs.Slots.{slot_of, is_free, serial_of, of_both, held_by, held_or, let_go, sound_use, busy_as}
+use Rattle.desk_record.specs.Slots.{slot_of, is_free, serial_of, held_by, held_or, let_go, sound_use, busy_as}
 use Rattle.desk_record.specs.Desks.{busy_from, possible_from, possible_of, lowest_of, with_slot, taken_desk, empty_desk}
-use Rattle.refusals.specs.Refusals.{when}
-use Rattle.histories.specs.Histories.{Done, took, published, released, History}
-use Rattle.histories.proofs.Past.{empty_slot, held_serial}
+use Rattle.histories.specs.Histories.{Done, History}
+use Rattle.histories.proofs.Past.{empty_slot}
 use Rattle.desk_refusals.proofs.Served.{TakeServed, SlotServed}
 use Rattle.histories.proofs.Steps.{slot_same, slot_other, always}
 

@@ -1,14 +1,12 @@
 -- One call after another: what an accepted call does to a desk, that a refused one does nothing, and so what holds after
 -- any calls from an empty desk. Assumes nothing.
-use mathlib.Core.Bool.{Bool, true, false, true≢false, false≢true, ◌&&◌}
+use mathlib.Core.Bool.{true, false≢true}
 use mathlib.Core.List.{List, [], ◌∷◌}
-use mathlib.Core.Path.{◌≡◌, refl, sym, ap, ◌∙◌, subst}
-use Prim.Native.Nat.{ℕ, zero, suc, ◌+◌, ◌*◌, ◌≤◌, ◌<◌}
-use native.Mathlib.Nat.{zero-add, suc-ne-zero}
+use mathlib.Core.Path.{◌≡◌, refl, sym, ap, ◌∙◌}
+use Prim.Native.Nat.{ℕ, suc, ◌+◌, ◌*◌, ◌<◌}
 use native.Mathlib.Omega.{arith}
 use borrow.Author.Tests.{eqb-true}
-use lib.Dec.{eqb}
-use lib.ListN.{length, get_or, set, length-set}
+use lib.ListN.{length, length-set}
 use lib.Seq.{get_or-set_same, get_or-set_other}
 use Rattle.refusals.proofs.Words.{kept_some, kept_none}
 use Rattle.formats.specs.Formats.{line_bytes}
@@ -17,7 +15,7 @@ use Rattle.desk_record.specs.declared.Use.TheVariants.{Free, Filling, Held}
 use Rattle.desk_record.specs.declared.Slot.{Slot}
 use Rattle.desk_record.specs.declared.Desk.{Desk}
 use Rattle.desk_record.specs.Slots.{free_slot, slot_of, is_free, filling_as, held_by, let_go}
-use Rattle.desk_record.specs.Desks.{lowest_from, lowest_of, with_slot, taken_desk, empty_desk}
+use Rattle.desk_record.specs.Desks.{lowest_of, with_slot, taken_desk, empty_desk}
 use Rattle.desk_refusals.specs.Asked.{take_refusal, publish_refusal, release_refusal}
 use Rattle.desk.specs.Calls.{take_answer, publish_answer, release_answer, seen_answer}
 use Rattle.histories.specs.Histories as histories

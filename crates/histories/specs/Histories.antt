@@ -5,7 +5,7 @@ use Rattle.std.proofs.Math.Option.{Option, none, some}
 use Rattle.desk_record.specs.declared.Use.{Use}
 use Rattle.desk_record.specs.declared.Use.TheVariants.{Free, Filling, Held}
 use Rattle.desk_record.specs.declared.Desk.{Desk}
-use Rattle.desk_record.specs.Slots.{is_free, held_or}
+use Rattle.desk_record.specs.Slots.{held_or}
 use Rattle.desk_record.specs.Desks.{empty_desk}
 use Rattle.desk.specs.Calls.{take_answer, publish_answer, release_answer}
 
