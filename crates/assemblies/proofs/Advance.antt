@@ -7,18 +7,16 @@ use Prim.Native.Nat.{ℕ, zero, suc, ◌*◌, ◌≤◌}
 use native.Mathlib.Omega.{arith}
 use lib.Dec.{eqb}
 use lib.ListN.{length, drop}
-use borrow.Author.Tests.{eqb-true, eqb-false, not-false}
-use Rattle.refusals.specs.Refusals.{when, answered, kept}
+use borrow.Author.Tests.{eqb-true, not-false}
+use Rattle.refusals.specs.Refusals.{answered, kept}
 use Rattle.refusals.proofs.Words.{none_first, none_second, none_when}
-use Rattle.formats.specs.Formats.{line_bytes}
 use Rattle.bits.specs.Bits.{stretch, same}
 use Rattle.bits.proofs.Same.{same_eq}
 use Rattle.blocks.specs.declared.block.Block.{Block}
 use Rattle.blocks.specs.declared.marks.Marks.{Marks}
-use Rattle.blocks.specs.declared.assembly.Revisions.{Revisions}
 use Rattle.blocks.specs.declared.assembly.Assembly.{Assembly}
 use Rattle.blocks.specs.Blocks.{block_of, segment_bytes, Sound}
-use Rattle.blocks.specs.Marking.{no_marks, marked}
+use Rattle.blocks.specs.Marking.{marked}
 use Rattle.blocks.specs.Record.{started, revision_of}
 use Rattle.blocks.proofs.Rows.{sound}
 use Rattle.revisions.specs.Carried.{revisions_in, foreign, foreign_refusal, remembered}

@@ -1,25 +1,22 @@
 -- WHAT STAYED: a line that is not of a foreign revision is answered as document 01 has it, and leaves marks and block as it has it.
 -- For mapping and orbit that is every line: each call and every run of them is as before. Assumes nothing.
-use mathlib.Core.Path.{◌≡◌, refl, sym, ap, subst, ◌∙◌}
-use mathlib.Core.Bool.{Bool, true, false, not, ◌&&◌, and-false}
+use mathlib.Core.Path.{◌≡◌, refl, ap, ◌∙◌}
+use mathlib.Core.Bool.{Bool, false, not, and-false}
 use mathlib.Core.List.{List, [], ◌∷◌}
 use Prim.Native.Nat.{ℕ, zero, suc, ◌≤◌}
 use native.Mathlib.Omega.{arith}
-use lib.Dec.{eqb}
-use lib.ListN.{length}
-use borrow.Author.Tests.{eq-eqb}
 use Rattle.refusals.specs.Refusals.{first, when, answered, kept}
 use Rattle.blocks.specs.declared.marks.Marks.{Marks}
 use Rattle.blocks.specs.declared.assembly.Revisions.{Revisions}
 use Rattle.blocks.specs.declared.assembly.Assembly.{Assembly}
-use Rattle.blocks.specs.Blocks.{block_of, mapping, orbit}
+use Rattle.blocks.specs.Blocks.{block_of, orbit}
 use Rattle.blocks.specs.Marking.{marked}
 use Rattle.blocks.specs.Record.{started, revision_of}
 use Rattle.revisions.specs.Carried.{revisions_in, foreign, foreign_refusal}
 use Rattle.segments.specs.declared.Added.{Added}
 use Rattle.segments.specs.declared.Added.TheVariants.{Refused}
-use Rattle.segments.specs.Assembly.{marks_with, assembly_with, placed_on, block_with, segment_in, carried_refusal, add_segment_refusal, added_segment, added_new, assembly_after, add_segment_answer, add_segment_left}
-use Rattle.copies.specs.Copies.{copy_refusal, place_refusal}
+use Rattle.segments.specs.Assembly.{marks_with, assembly_with, placed_on, block_with, segment_in, add_segment_refusal, added_segment, added_new, assembly_after, add_segment_answer, add_segment_left}
+use Rattle.copies.specs.Copies.{place_refusal}
 use Rattle.assemblies.specs.Runs.{State, answer_to, step, run}
 use Rattle.assemblies.specs.Before.{earlier_refusal, earlier_values, Earlier, earlier_step, earlier_run}
 

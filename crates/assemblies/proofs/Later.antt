@@ -7,7 +7,6 @@ use Prim.Native.Nat.{ℕ, ◌*◌}
 use Rattle.refusals.specs.Refusals.{first, when, answered, kept}
 use Rattle.bits.specs.Bits.{stretch, same}
 use Rattle.bits.proofs.Same.{same_eq, same_refl}
-use Rattle.blocks.specs.declared.block.Block.{Block}
 use Rattle.blocks.specs.declared.assembly.Assembly.{Assembly}
 use Rattle.blocks.specs.Blocks.{block_of, segment_bytes}
 use Rattle.blocks.specs.Marking.{marked}

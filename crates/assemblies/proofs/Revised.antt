@@ -3,12 +3,11 @@
 use mathlib.Core.Path.{◌≡◌, refl, sym, ap, subst, ◌∙◌}
 use mathlib.Core.Bool.{Bool, true, false, cond, false≢true}
 use mathlib.Core.List.{List, [], ◌∷◌}
-use Prim.Native.Nat.{ℕ, ◌≤◌}
+use Prim.Native.Nat.{ℕ}
 use native.Mathlib.Omega.{arith}
 use lib.Dec.{eqb}
 use lib.Ieee as Ieee
 use lib.ListN.{length}
-use Rattle.refusals.specs.Refusals.{answered}
 use Rattle.refusals.proofs.Given.{unrefused}
 use Rattle.numbers.specs.declared.R.{R}
 use Rattle.blocks.specs.declared.assembly.Revisions.{Revisions}

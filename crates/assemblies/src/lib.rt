@@ -10,3 +10,4 @@
 //   Skips     a refused line changes nothing, so that this holds over any run of lines
 //   Revised   NEVER HALF OF EACH: all segments of a finished block are of the revision that it answers
 //   AsBefore  mapping and orbit, and every line that is not foreign, are as before
+#![tactic(auto)]

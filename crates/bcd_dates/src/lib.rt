@@ -4,5 +4,7 @@
 // bytes), each an equation. Places count from 0.
 //
 // All functions here are inner: each asks that the bytes are there, and the calls above, which users make, refuse instead.
+#![tactic(auto)]
+
 pub mod dates;
 pub mod decimals;

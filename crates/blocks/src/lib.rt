@@ -6,6 +6,8 @@
 // block say, in `entries` and `calibration`; that a finished block is its segments, in `assemblies`.
 //
 // No public function has a `requires`, but those marked "Inner.", which the crates above use.
+#![tactic(auto)]
+
 pub mod assembly;
 pub mod block;
 pub mod marks;

@@ -5,6 +5,8 @@
 // every input; refusals stand in the paper's order, and nothing is given of a block that is not finished.
 //
 // No public function has a `requires`. A buffer may be longer than its block.
+#![tactic(auto)]
+
 ghost use Rattle.std.specs.Prelude.{◌≡◌, ◌+◌, ◌≤◌, ◌<◌};
 ghost use Rattle.calibration.specs.Tables.{Table, albedos, temperatures, level_place, LevelRealOk, LevelOk, LevelF64Ok};
 

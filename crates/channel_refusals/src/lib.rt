@@ -2,6 +2,8 @@
 //
 // The contract cites `specs/Refusing.antt`, over what a sector of a line says (`specs/Sector.antt` of `sector_check`). The function is
 // inner.
+#![tactic(auto)]
+
 ghost use Rattle.std.specs.Prelude.{◌≡◌};
 ghost use Rattle.channel_refusals.specs.Refusing.{joined_answer};
 

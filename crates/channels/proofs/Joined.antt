@@ -1,6 +1,6 @@
 -- Two parts joined, pixel by pixel: the loop that joins them. Assumes nothing.
 use mathlib.Core.Path.{◌≡◌, refl, sym, ap, ap₂, ◌∙◌}
-use mathlib.Core.List.{List, [], ◌∷◌, ◌++◌}
+use mathlib.Core.List.{List, ◌++◌}
 use Prim.Native.Nat.{ℕ, ◌+◌, ◌*◌, ◌<◌}
 use lib.ListN.{length, drop, set}
 use Rattle.bits.specs.Bits.{bits_of, part, number_of, fields_of}

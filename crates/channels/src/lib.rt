@@ -4,4 +4,6 @@
 // slice (`specs/Join.antt`), over what a sector of a line says (`specs/Sector.antt` of `sector_check`).
 //
 // No public function has a `requires`, but those marked "Inner.". A line's buffer may be longer than 44,356 bytes.
+#![tactic(auto)]
+
 pub mod join;

@@ -2,6 +2,8 @@
 // assembly holds. The call itself, which refuses what this asks of its caller, is in `segments`.
 //
 // The contracts cite `specs/Copies.antt`. All functions are inner.
+#![tactic(auto)]
+
 ghost use Rattle.std.specs.Prelude.{◌≡◌};
 ghost use Rattle.blocks.specs.Blocks.{block_of};
 ghost use Rattle.copies.specs.Copies.{Placeable, differs_refusal, stored_of, place_refusal};

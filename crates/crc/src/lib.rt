@@ -6,6 +6,8 @@
 //
 // The functions here are inner: those that go through a slice ask that the bits they are given lie in it, and the
 // calls above, which users make, refuse instead.
+#![tactic(auto)]
+
 ghost use Rattle.std.specs.Prelude.{◌≡◌, ◌+◌, ◌*◌, ◌%◌, ◌^◌, ◌≤◌, ◌<◌, length};
 ghost use Rattle.bits.specs.Bits.{part};
 ghost use Rattle.crc_step.specs.Remainder.{remainder_of, check_word_of};

@@ -17,7 +17,7 @@ use Rattle.wire.specs.Parts.{line_of}
 use Rattle.reader_bits.specs.Call.{bit_of, Call, whole, bitsThen, bytes_from, call}
 use Rattle.reader_bits.specs.Lines.{opens, afterTail, lineThen, linesUpTo, lines_of, window_bits, is_tail, lines, equals_tail, exact_lines}
 use Rattle.reader_bits.specs.Loops.{step_of, done_of}
-use Rattle.reader_bits.specs.Phase.{Phase, seeking, within, phaseNext, Bench, step}
+use Rattle.reader_bits.specs.Phase.{Phase, seeking, within, phaseNext, step}
 use Rattle.reader_bits.proofs.TailTest.{zero_equals}
 use Rattle.reader_record.specs.Records.{phase_of}
 use Rattle.reader_record.specs.declared.State.{State}

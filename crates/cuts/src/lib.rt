@@ -12,3 +12,4 @@
 // Over any machine that goes bit by bit: Calls (one call), Cuts (calls in a row), Onward (the state after them). Over any window
 // and any line: Windows (the plain definition), Auto (the same as a machine), Stands and Simulates (the reader is that
 // machine), Snoc (one bit more). Over the call itself: Cases (its cases), Reached (the records that it comes to).
+#![tactic(auto)]

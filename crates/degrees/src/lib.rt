@@ -1,6 +1,8 @@
 // The degrees of a point of the mapping grid: the latitude of a row, and the longitude of a column in each format.
 //
 // The contracts cite `specs/Degrees.antt`. All functions are inner.
+#![tactic(auto)]
+
 ghost use Rattle.std.specs.Prelude.{◌≡◌, ◌≤◌};
 ghost use Rattle.degrees.specs.Degrees.{latitude_of, first_longitude, west_above180, longitude_of};
 

@@ -48,7 +48,7 @@ use Rattle.document_stamps.specs.Lines.{counts_refusal, line_numbers_refusal}
 use Rattle.document_stamps.specs.Dates.{date_refusal}
 use Rattle.document_fields.specs.Fields.{no_place, field_refusal, integer_field_refusal, bcd_field_refusal, real_field_refusal}
 use Rattle.blocks.specs.declared.marks.Marks.{Marks}
-use Rattle.blocks.specs.Blocks.{block_of, block_refusal}
+use Rattle.blocks.specs.Blocks.{block_refusal}
 use Rattle.blocks.specs.Marking.{marks_refusal, unfinished_refusal}
 use Rattle.blocks.specs.declared.assembly.Assembly.{Assembly}
 use Rattle.revisions.specs.Carried.{revisions_in, foreign, foreign_refusal}

@@ -1,5 +1,5 @@
 -- 13 EXACTLY: of a known format, for a setting above 6 and for no other, whatever record and buffer. Assumes nothing.
-use mathlib.Core.Bool.{Bool, true, false, not}
+use mathlib.Core.Bool.{true, not}
 use mathlib.Core.List.{[], ◌∷◌}
 use mathlib.Core.Logic.{◌↔◌}
 use mathlib.Core.Path.{◌≡◌, refl, sym, ◌∙◌}
@@ -8,7 +8,6 @@ use native.Mathlib.Omega.{arith}
 use borrow.Author.Tests.{ltb-true, lt-ltb, le-ltb}
 use lib.Dec.{ltb}
 use Rattle.refusals.specs.Refusals.{outside}
-use Rattle.refusals.specs.Order.{first_of}
 use Rattle.refusals.proofs.Exactly.{exactly}
 use Rattle.formats.specs.Formats.{line_bytes, format_refusal}
 use Rattle.reader_record.specs.Records.{possible_of}

@@ -16,3 +16,4 @@
 //   Nine       the smallest number of places in which an earlier window of what is written differs from the tail
 //   Iced       the iced dish: which wrong bits in SYNC and dummy cost no line and make no false one
 //   Thirteen   refusal 13 exactly
+#![tactic(auto)]

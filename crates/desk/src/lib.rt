@@ -6,6 +6,8 @@
 // No call is lent the area, only told its length: the reader alone writes there.
 //
 // The contracts cite `specs/Calls.antt`, the refusals and the answer of each call. No public function has a `requires`.
+#![tactic(auto)]
+
 ghost use Rattle.std.specs.Prelude.{◌≡◌};
 ghost use Rattle.desk.specs.Calls.{fresh_answer, take_answer, publish_answer, release_answer, seen_answer};
 

@@ -1,10 +1,10 @@
 -- What is known of a desk once a call on it is not refused. Assumes nothing.
-use mathlib.Core.Bool.{Bool, true, false, ◌&&◌, not}
+use mathlib.Core.Bool.{Bool, true, not}
 use mathlib.Core.Path.{◌≡◌}
-use Prim.Native.Nat.{ℕ, zero, suc, ◌+◌, ◌*◌, ◌≤◌, ◌<◌}
+use Prim.Native.Nat.{ℕ, ◌*◌, ◌≤◌, ◌<◌}
 use native.Mathlib.Omega.{arith}
-use borrow.Author.Tests.{ltb-false, leb-true, leb-false, not-false}
-use lib.Dec.{leb, ltb}
+use borrow.Author.Tests.{leb-false, not-false}
+use lib.Dec.{leb}
 use Rattle.formats.specs.Formats.{line_bytes}
 use Rattle.refusals.specs.Refusals.{first, when, short_of}
 use Rattle.refusals.proofs.Words.{none_first, none_second, none_when, enough, inside}

@@ -1,6 +1,8 @@
 // What refuses a call on the line desk, in the order in which it is tested. `desk` has the calls.
 //
 // The contracts cite `specs/Asked.antt`. All functions here are inner; some ask for a count of at most 8, which the first test sees to.
+#![tactic(auto)]
+
 ghost use Rattle.std.specs.Prelude.{◌≡◌, ◌≤◌, leb};
 ghost use Rattle.refusals.specs.Refusals.{when};
 ghost use Rattle.desk_record.specs.Desks.{lowest_of, last_serial};

@@ -3,6 +3,8 @@
 // The contracts cite `specs/Slots.antt` and `specs/Desks.antt` of `desk_record`.
 //
 // All functions here are inner; they ask for a count of at most 8.
+#![tactic(auto)]
+
 ghost use Rattle.std.specs.Prelude.{◌≡◌, ◌||◌, not, ◌+◌, ◌-◌, ◌<◌, ◌≤◌};
 ghost use Rattle.desk_record.specs.Slots.{slot_of, is_free, serial_of};
 ghost use Rattle.desk_record.specs.Desks.{busy_from, possible_of, lowest_of, with_slot};

@@ -9,6 +9,8 @@
 // Places are bytes of sector 1 counted from 1, its ID included. A line's buffer may be longer than 44,356 bytes.
 //
 // No public function has a `requires`, but those marked "Inner.", which the crates above use too.
+#![tactic(auto)]
+
 pub mod modes;
 pub mod place;
 pub mod segments;

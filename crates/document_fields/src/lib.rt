@@ -6,6 +6,8 @@
 // Places are bytes of sector 1 counted from 1, its ID included, as in the crate `document`.
 //
 // No public function has a `requires`.
+#![tactic(auto)]
+
 ghost use Rattle.std.specs.Prelude.{◌≡◌};
 ghost use Rattle.document_fields.specs.Fields.{no_place, field_refusal, IntegerFieldOk, BcdFieldOk, RealFieldOk, F64FieldOk};
 

@@ -7,6 +7,8 @@
 // Places are bytes of sector 1 counted from 1, its ID included, as in the crate `document`; the code counts from 0.
 //
 // No public function has a `requires`, but those marked "Inner.".
+#![tactic(auto)]
+
 pub mod dates;
 pub mod lines;
 pub mod stamp;

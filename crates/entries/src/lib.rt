@@ -7,6 +7,8 @@
 //
 // No public function has a `requires`, but those marked "Inner.", which the modules and `calibration` use. A buffer may be
 // longer than its block.
+#![tactic(auto)]
+
 pub mod entry;
 pub mod mapping;
 pub mod orbit;

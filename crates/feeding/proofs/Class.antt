@@ -3,15 +3,13 @@
 -- n-th line that the plain definition finds in the whole recording, and pixels joined from it are that line's. Assumes nothing.
 use mathlib.Core.Bool.{true}
 use mathlib.Core.List.{List, [], ◌∷◌, ◌++◌, append_assoc}
-use mathlib.Core.Option.{Option, some}
 use mathlib.Core.Path.{◌≡◌, refl, sym, ap, subst, ◌∙◌}
-use Prim.Native.Nat.{ℕ, suc, ◌≤◌}
+use Prim.Native.Nat.{ℕ, ◌≤◌}
 use lib.ListN.{length, take, drop, take-append-drop}
-use Rattle.bits.specs.Bits.{bits_of, in_arow}
+use Rattle.bits.specs.Bits.{in_arow}
 use Rattle.formats.specs.Formats.{format_of}
 use Rattle.formats.specs.declared.Format.{Format}
 use Rattle.formats.specs.declared.FormatAnswer.TheVariants.{Is}
-use Rattle.reader_bits.specs.Lines.{recorded}
 use Rattle.reader_record.specs.declared.State.{State}
 use Rattle.reader_refusals.specs.Refusing.{largest_setting}
 use Rattle.desk_record.specs.declared.Desk.{Desk}
@@ -19,13 +17,13 @@ use Rattle.desk_record.specs.Slots.{slot_of, held_by}
 use Rattle.desk.specs.Calls.{seen_answer}
 use Rattle.histories.specs.Histories.{Done, History}
 use Rattle.histories.proofs.Steps.{seen_it}
-use Rattle.feeding.specs.Area.{slot_at, part_of, line_no}
+use Rattle.feeding.specs.Area.{slot_at, part_of}
 use Rattle.feeding.specs.Fed as run
 use Rattle.feeding.specs.Fed.{Fed}
 use Rattle.feeding.specs.Feeder as feeder
 use Rattle.feeding.specs.Feeder.{Feeder}
 use Rattle.feeding.specs.OneLine.{OneSlot}
-use Rattle.feeding.proofs.EndToEnd.{held-line, run-history, run_past}
+use Rattle.feeding.proofs.EndToEnd.{run-history, run_past}
 use Rattle.feeding.proofs.Pixels.{held_pixels}
 use Rattle.feeding.proofs.Seen.{seen_slot}
 

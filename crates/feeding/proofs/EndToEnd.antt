@@ -2,7 +2,7 @@
 -- serial n is the n-th line that the plain definition finds in the bytes fed. Assumes nothing.
 use mathlib.Core.Bool.{Bool, true, false, ◌&&◌, not, true≢false, false≢true}
 use mathlib.Core.List.{List, [], ◌∷◌, ◌++◌, append_assoc}
-use mathlib.Core.Option.{Option, some}
+use mathlib.Core.Option.{some}
 use mathlib.Core.Path.{◌≡◌, refl, sym, ap, ◌∙◌}
 use Prim.Native.Nat.{ℕ, suc, ◌+◌, ◌-◌, ◌*◌, ◌≤◌, ◌<◌}
 use native.Mathlib.Omega.{arith}
@@ -16,7 +16,7 @@ use Rattle.bits.proofs.Bytes.{bits_append}
 use Rattle.formats.specs.Formats.{line_bytes, format_of}
 use Rattle.formats.specs.declared.Format.{Format}
 use Rattle.formats.specs.declared.FormatAnswer.TheVariants.{Is}
-use Rattle.desk_record.specs.Slots.{slot_of, is_free, serial_of, held_by, held_or, let_go}
+use Rattle.desk_record.specs.Slots.{slot_of, is_free, held_by, let_go}
 use Rattle.desk_record.specs.Desks.{lowest_of, with_slot, taken_desk, empty_desk, possible_of}
 use Rattle.desk.specs.Calls.{take_answer, publish_answer, release_answer}
 use Rattle.histories.specs.Histories as histories

@@ -1,22 +1,22 @@
 -- SUCH RUNS THERE ARE: for every desk of 2 to 8 slots in an area with room, and every recording of fewer bytes than there are
 -- serial numbers, a run feeds it to its last byte. (Here each line is released by both as soon as it is published.) Assumes
 -- nothing.
-use mathlib.Core.Bool.{Bool, true, false, true≢false, false≢true}
+use mathlib.Core.Bool.{true, false}
 use mathlib.Core.List.{List, [], ◌∷◌, ◌++◌, append_assoc, append-nil}
-use mathlib.Core.Path.{◌≡◌, refl, sym, ap, ◌∙◌, subst}
+use mathlib.Core.Path.{◌≡◌, refl, ap, ◌∙◌, subst}
 use Prim.Native.Nat.{ℕ, zero, suc, ◌+◌, ◌*◌, ◌≤◌, ◌<◌}
 use native.Mathlib.Nat.{le_refl, zero-lt-suc}
 use native.Mathlib.Omega.{arith}
 use borrow.Author.Tests.{lt-leb, eq-eqb}
-use lib.ListN.{length, take, drop, length-append, length-take, length-drop, take-append-drop}
+use lib.ListN.{length, take, drop, length-append, length-drop, take-append-drop}
 use lib.Seq.{length-take-le}
 use Rattle.reader_refusals.specs.Refusing.{largest_setting}
 use Rattle.formats.specs.Formats.{line_bytes, format_of}
 use Rattle.formats.specs.declared.Format.{Format}
 use Rattle.formats.specs.declared.FormatAnswer.TheVariants.{Is}
 use Rattle.refusals.specs.Refusals.{first, when}
-use Rattle.desk_record.specs.Slots.{slot_of, is_free, held_by, held_or, let_go}
-use Rattle.desk_record.specs.Desks.{lowest_from, lowest_of, last_serial, with_slot, taken_desk, empty_desk}
+use Rattle.desk_record.specs.Slots.{slot_of, held_by, let_go}
+use Rattle.desk_record.specs.Desks.{lowest_of, last_serial, empty_desk}
 use Rattle.desk_refusals.specs.Asked.{none_refusal}
 use Rattle.desk.specs.Calls.{take_answer, publish_answer, release_answer}
 use Rattle.desk_record.specs.declared.Desk.{Desk}

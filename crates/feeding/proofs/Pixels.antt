@@ -1,11 +1,10 @@
 -- PIXELS JOINED FROM A HELD SLOT are those of its one line: what was once mixed. Assumes nothing.
 use mathlib.Core.Bool.{true}
 use mathlib.Core.List.{List, ◌++◌}
-use mathlib.Core.Option.{Option, some}
-use mathlib.Core.Path.{◌≡◌, refl, sym, ap, ◌∙◌}
-use Prim.Native.Nat.{ℕ, ◌*◌, ◌≤◌, ◌<◌}
+use mathlib.Core.Path.{◌≡◌, refl, ap, ◌∙◌}
+use Prim.Native.Nat.{ℕ, ◌*◌, ◌≤◌}
 use native.Mathlib.Nat.{le_refl}
-use lib.ListN.{length, get_or, take, drop}
+use lib.ListN.{get_or, drop}
 use lib.Seq.{take-take}
 use Rattle.bits.specs.Bits.{bits_of}
 use Rattle.formats.specs.Formats.{line_bytes, format_of}
@@ -13,9 +12,6 @@ use Rattle.formats.specs.declared.Format.{Format}
 use Rattle.formats.specs.declared.FormatAnswer.TheVariants.{Is}
 use Rattle.sector_check.specs.Sector.{pixels_of, joined_pixel}
 use Rattle.sector_table.specs.Layout.{upper_of, lower_of}
-use Rattle.channel_refusals.specs.Refusing.{joined_answer}
-use Rattle.channels.specs.Join.{joined_left}
-use Rattle.reader_bits.specs.Lines.{recorded}
 use Rattle.reader_record.specs.declared.State.{State}
 use Rattle.reader_refusals.specs.Refusing.{largest_setting}
 use Rattle.cuts.specs.Driven.{line_in}

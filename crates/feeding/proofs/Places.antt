@@ -1,14 +1,14 @@
 -- The slots of an area, and lines by number. Assumes nothing.
 use mathlib.Core.Bool.{Bool, true, false}
 use mathlib.Core.List.{List, [], ◌∷◌, ◌++◌, append_assoc}
-use mathlib.Core.Option.{Option, none, some}
+use mathlib.Core.Option.{some}
 use mathlib.Core.Path.{◌≡◌, refl, sym, ap, ◌∙◌}
 use Prim.Native.Nat.{ℕ, zero, suc, ◌+◌, ◌-◌, ◌*◌, ◌≤◌, ◌<◌}
 use native.Mathlib.Omega.{arith}
 use borrow.Author.Tests.{ltb-true, ltb-false}
 use lib.Dec.{ltb}
-use lib.ListN.{length, take, drop, get_elem?, length-append, length-take, length-drop, take-append-drop}
-use lib.Seq.{take_all, take_at, drop_at, take-append-le, drop-append-le, drop-append-add, take-add, drop-drop, take-take, length-take-le}
+use lib.ListN.{length, take, drop, get_elem?, length-append, length-drop, take-append-drop}
+use lib.Seq.{take_at, drop_at, take-append-le, drop-append-le, drop-append-add, drop-drop, length-take-le}
 use Rattle.formats.specs.Formats.{line_bytes}
 use Rattle.feeding.specs.Area.{slot_at, put_slot, line_no}
 

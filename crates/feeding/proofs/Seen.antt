@@ -1,11 +1,10 @@
 -- WHAT A CONSUMER READS where `seen` points: line n of the bytes fed, bit for bit. Assumes nothing.
-use mathlib.Core.Bool.{true}
 use mathlib.Core.List.{List, ◌++◌}
-use mathlib.Core.Option.{Option, some}
+use mathlib.Core.Option.{some}
 use mathlib.Core.Path.{◌≡◌, refl, sym, ap, ◌∙◌}
 use Prim.Native.Nat.{ℕ, ◌≤◌, ◌+◌, ◌-◌, ◌*◌}
 use native.Mathlib.Omega.{arith}
-use lib.ListN.{length, take, drop}
+use lib.ListN.{length}
 use Rattle.reader_refusals.specs.Refusing.{largest_setting}
 use Rattle.bits.specs.Bits.{bits_of}
 use Rattle.formats.specs.Formats.{line_bytes, format_of}

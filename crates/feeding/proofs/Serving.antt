@@ -1,18 +1,17 @@
 -- IN A RUN NOTHING IS REFUSED that should not be: a read with the slot of the next line lent, a publish of a complete line, and
 -- a release of a hold are served. Assumes nothing.
-use mathlib.Core.Bool.{Bool, true, false, true≢false, false≢true}
-use mathlib.Core.List.{List, [], ◌∷◌, ◌++◌}
+use mathlib.Core.Bool.{true, false, false≢true}
+use mathlib.Core.List.{List}
 use mathlib.Core.Path.{◌≡◌, refl, sym, ap, ◌∙◌, subst}
-use Prim.Native.Nat.{ℕ, suc, ◌+◌, ◌*◌, ◌≤◌, ◌<◌}
+use Prim.Native.Nat.{ℕ, suc, ◌≤◌}
 use native.Mathlib.Omega.{arith}
-use lib.ListN.{length, take}
+use lib.ListN.{length}
 use Rattle.reader_refusals.specs.Refusing.{largest_setting}
-use Rattle.formats.specs.Formats.{line_bytes, format_of}
+use Rattle.formats.specs.Formats.{format_of}
 use Rattle.formats.specs.declared.Format.{Format}
 use Rattle.formats.specs.declared.FormatAnswer.TheVariants.{Is}
 use Rattle.desk_record.specs.Slots.{slot_of, is_free, held_by}
-use Rattle.desk.specs.Calls.{take_answer, publish_answer, release_answer}
-use Rattle.desk_refusals.specs.Asked.{none_refusal}
+use Rattle.desk.specs.Calls.{publish_answer, release_answer}
 use Rattle.desk_record.specs.declared.Desk.{Desk}
 use Rattle.desk_record.specs.declared.Use.{Use}
 use Rattle.desk_record.specs.declared.Use.TheVariants.{Free, Filling, Held}
@@ -23,7 +22,7 @@ use Rattle.reader_bits.specs.Phase.{Phase, seeking, Bench}
 use Rattle.reader_bits.specs.Loops.{step_of, done_of}
 use Rattle.reader_line.specs.Answers.{call_answer}
 use Rattle.reader.specs.Read.{read_answer, refusal_of}
-use Rattle.reader_record.specs.Records.{fresh_state, state_of}
+use Rattle.reader_record.specs.Records.{state_of}
 use Rattle.reader_record.specs.declared.State.{State}
 use Rattle.reader_line.specs.declared.Answer.{Answer}
 use Rattle.reader_line.specs.declared.Answer.TheVariants.{Refused, More, Line}

@@ -1,15 +1,13 @@
 -- A LINE STANDS WHOLE IN ITS SLOT until a call finds a tail with that slot lent. Assumes nothing.
-use mathlib.Core.Bool.{false}
 use mathlib.Core.List.{List}
-use mathlib.Core.Path.{◌≡◌, refl, sym, ap, ◌∙◌}
+use mathlib.Core.Path.{◌≡◌, refl, ◌∙◌}
 use Prim.Native.Nat.{ℕ, ◌+◌, ◌*◌, ◌≤◌}
 use native.Mathlib.Omega.{arith}
 use lib.ListN.{length, drop, length-drop}
 use lib.Seq.{length-take-le}
 use Rattle.formats.specs.Formats.{line_bytes}
-use Rattle.reader.specs.Read.{read_answer, read_left}
+use Rattle.reader.specs.Read.{read_left}
 use Rattle.reader_record.specs.declared.State.{State}
-use Rattle.reader_line.specs.declared.Answer.TheVariants.{Refused, More}
 use Rattle.cuts.proofs.Keeps.{line_stays, refused_stays}
 use Rattle.feeding.specs.Area.{slot_at, area_after}
 use Rattle.feeding.specs.Spared as spared

@@ -1,6 +1,6 @@
 -- A LINE IS A LINE, in a slot: what a consumer that holds it under serial n finds there. Assumes nothing.
 use Rattle.std.specs.Prelude.{List, ◌≡◌, ℕ, ◌<◌, length, get_or}
-use Rattle.std.proofs.Math.Option.{Option, some}
+use Rattle.std.proofs.Math.Option.{some}
 use Rattle.bits.specs.Bits.{bits_of}
 use Rattle.sector_check.specs.Sector.{pixels_of, joined_pixel}
 use Rattle.sector_table.specs.Layout.{upper_of, lower_of}

@@ -11,6 +11,8 @@
 //   Class      the same of the feeder's protocol over a recording in pieces
 //
 // The one function here is the feeder's read: a slot of the area lent to the reader.
+#![tactic(auto)]
+
 ghost use Rattle.std.specs.Prelude.{◌≡◌, ◌+◌, ◌*◌, ◌≤◌, length};
 ghost use Rattle.reader.specs.Read.{read_answer};
 ghost use Rattle.feeding.specs.Area.{slot_at, area_after};

@@ -8,3 +8,4 @@
 //   Period    the register's period, and where it stands after the information bits
 //
 // Every, Far, Sweep and Back are what these are computed by.
+#![tactic(auto)]

@@ -4,6 +4,8 @@
 // refusals are those of `read_real` in `numbers`.
 //
 // No public function has a `requires`, but those marked "Inner.", which the crates above use.
+#![tactic(auto)]
+
 ghost use Rattle.std.specs.Prelude.{◌≡◌, ◌^◌, ◌<◌};
 ghost use Rattle.floats.specs.Floats.{Fits, FitsIn, value_of, as_float, ReadF64Ok};
 

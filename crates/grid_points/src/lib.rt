@@ -2,6 +2,8 @@
 // itself, which refuses what this asks of its caller, is in `entries`.
 //
 // The contract cites `specs/Points.antt`. The function is inner.
+#![tactic(auto)]
+
 ghost use Rattle.std.specs.Prelude.{◌≡◌, ◌≤◌, length};
 ghost use Rattle.grid_points.specs.Points.{grid_at};
 

@@ -13,3 +13,4 @@
 //   StaysPossible  no call leads from a possible desk to an impossible one
 //   Accepts        when a call is accepted
 //   Refused        each refusal exactly; from an empty desk 12 never comes
+#![tactic(auto)]

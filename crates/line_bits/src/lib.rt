@@ -2,6 +2,8 @@
 //
 // The contracts cite `specs/Reading.antt`, over the definitions of `reader_bits`; whole bytes are in `line_bytes`. All functions are inner: the call of the crate
 // `reader` refuses instead.
+#![tactic(auto)]
+
 ghost use Rattle.std.specs.Prelude.{◌≡◌, ◌<◌, ◌^◌, ◌%◌};
 ghost use Rattle.line_bytes.specs.Spans.{FillIn};
 ghost use Rattle.line_bits.specs.Reading.{FilledOk};

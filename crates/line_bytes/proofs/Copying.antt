@@ -9,7 +9,7 @@ use native.Mathlib.Omega.{arith}
 use borrow.Author.Tests.{eqb-true, eqb-false}
 use lib.Bits.{bit_or, or_shifted}
 use lib.Dec.{eqb}
-use lib.ListN.{length, get_or, take, drop, set}
+use lib.ListN.{length, get_or, drop, set}
 use lib.Pow.{shl-shr, shr_lt, mod-pow-add, high, low}
 use lib.Seq.{take-set-le, drop-set-lt, drop-drop, get_or-set_same, get_or-set_other}
 use Rattle.line_bytes.specs.Spans.{across, byte_before, Copied}

@@ -20,7 +20,6 @@ use Rattle.runs.proofs.Puts.{mixed-at, mixed-front, mixed-back}
 use Rattle.reader_bits.specs.Loops.{going}
 use Rattle.reader_bits.specs.Phase.{within}
 use Rattle.line_bytes.specs.Spans.{FillIn, across, byte_before, Copied, Whole, SpanOk}
-use Rattle.line_bytes.specs.declared.Span.{Span}
 use Rattle.line_bytes.proofs.Eight.{line-byte}
 
 record Goes (p : List ℕ) (t n v place r : ℕ) (buf : List ℕ) (i v' r' : ℕ) (buf' : List ℕ) : Type 0 where

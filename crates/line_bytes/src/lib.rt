@@ -2,6 +2,8 @@
 //
 // The contracts cite `specs/Spans.antt`, over the definitions of `reader_bits`. All functions are inner: the call of the crate
 // `reader` refuses instead.
+#![tactic(auto)]
+
 ghost use Rattle.std.specs.Prelude.{◌≡◌, zero, ◌+◌, ◌*◌, ◌/◌, ◌%◌, ◌^◌, ◌≤◌, ◌<◌, length};
 ghost use Rattle.line_bytes.specs.Spans.{FillIn, across, Copied, Whole, SpanOk};
 

@@ -12,7 +12,7 @@ use Rattle.entries.specs.declared.mapping.Mapped.{Mapped}
 use Rattle.entries.specs.declared.mapping.Mapped.TheVariants as mapped
 use Rattle.entries.specs.Entries.{mapped_number, mapped_point, grid_refusal, mapping_refusal, mapping_answer}
 use Rattle.degrees.specs.Degrees.{first_longitude, latitude_of}
-use Rattle.grid_points.specs.Points.{grid_place, grid_at}
+use Rattle.grid_points.specs.Points.{grid_at}
 use Rattle.entries.proofs.Known.{in_grid}
 use Rattle.meridians.specs.Meridians.{SameMeridian}
 use Rattle.meridians.specs.Before.{earlier_grid_at, earlier_answer}

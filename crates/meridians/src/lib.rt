@@ -6,3 +6,4 @@
 //   Columns   THE 25 COLUMNS OF EACH FORMAT; no two points of a grid have the same latitude and longitude
 //   Points    the same of every answer of `mapping`
 //   AsBefore  bytes, latitudes and refusals are as before, and in every format but 2 the whole answer
+#![tactic(auto)]

@@ -5,6 +5,8 @@
 // what was read is written again (`proofs/RoundTrip.antt`).
 //
 // No public function has a `requires`.
+#![tactic(auto)]
+
 ghost use Rattle.std.specs.Prelude.{◌≡◌, ◌+◌, ◌*◌, ◌^◌, ◌≤◌, ◌<◌, length};
 ghost use Rattle.numbers.specs.Reals.{sign_bit};
 ghost use Rattle.number_writer.specs.Written.{put_real_refusal, PutRealOk, put_real_left};

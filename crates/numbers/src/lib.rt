@@ -6,6 +6,8 @@
 // order.
 //
 // No public function has a `requires`, but those marked "Inner.", which the crates above use.
+#![tactic(auto)]
+
 ghost use Rattle.std.specs.Prelude.{◌≡◌, ◌+◌, ◌-◌, ◌*◌, ◌^◌, ◌≤◌, ◌<◌, length};
 ghost use Rattle.bits.specs.Bits.{bits_of, fields_of};
 ghost use Rattle.refusals.specs.Refusals.{first, outside_of, short_of};

@@ -1,16 +1,13 @@
 -- A RECORD IS THE REPORT OF SOME LINES exactly where each of its fields says what it should of them: how many lines have each answer,
 -- the pixels of all accepted pairs in a row, least and largest as bounds that are attained. Assumes nothing.
-use mathlib.Core.Path.{◌≡◌, refl, sym, ap, subst, ◌∙◌}
+use mathlib.Core.Path.{◌≡◌, sym, ap, subst, ◌∙◌}
 use mathlib.Core.Logic.{◌↔◌}
 use mathlib.Core.List.{List}
 use Prim.Native.Nat.{ℕ, suc, ◌<◌}
-use lib.ListN.{length}
-use Rattle.report_record.specs.declared.Range.{Range}
 use Rattle.report_record.specs.declared.Tally.{Tally}
 use Rattle.report_record.specs.declared.Channel.{Channel}
 use Rattle.report_record.specs.declared.Report.{Report}
-use Rattle.report_record.specs.Sums.{row_of}
-use Rattle.report_record.specs.Report.{tally_of, pixels_in, range_of, Says, channel_of, report_by, no_tally, no_channel, tally_at, channel_at, IsReport}
+use Rattle.report_record.specs.Report.{tally_of, pixels_in, Says, channel_of, report_by, no_tally, no_channel, tally_at, channel_at, IsReport}
 use Rattle.report_record.proofs.Rows.{row_same, row_list}
 use Rattle.report_record.proofs.Ranges.{range_says, range_exactly}
 use Rattle.report_record.proofs.Adding.{channel_same, tally_same}

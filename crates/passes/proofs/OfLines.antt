@@ -15,7 +15,7 @@ use Rattle.report_record.specs.declared.Tally.{Tally}
 use Rattle.report_record.specs.declared.Channel.{Channel}
 use Rattle.report_record.specs.declared.Range.TheVariants.{Absent}
 use Rattle.report_record.specs.declared.Report.{Report}
-use Rattle.report_record.specs.Report.{report_by, report_of, tally_of, pixels_in, channel_of, Plain, tally_at, channel_at, added}
+use Rattle.report_record.specs.Report.{report_by, report_of, tally_of, pixels_in, channel_of, Plain, tally_at, channel_at}
 use Rattle.report_record.specs.Possible.{most_lines, record_refusal}
 use Rattle.report_record.proofs.Ranges.{absent_exactly}
 use Rattle.report_record.proofs.Possible.{record_passes}

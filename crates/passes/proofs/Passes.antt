@@ -11,7 +11,6 @@ use borrow.Author.Tests.{ltb-true, ltb-false}
 use lib.Dec.{ltb}
 use lib.ListN.{length, take, drop, length-append}
 use lib.Seq.{take_all, take-append-le, length-take-le}
-use Rattle.refusals.specs.Refusals.{kept}
 use Rattle.refusals.proofs.Words.{kept_some}
 use Rattle.formats.specs.Formats.{format_of, line_bytes, format_refusal, check_start}
 use Rattle.formats.specs.declared.Format.{Format}
@@ -30,7 +29,7 @@ use Rattle.cuts.proofs.Demand.{demand-3}
 use Rattle.cuts.proofs.Sized.{read_length}
 use Rattle.report_record.specs.declared.Report.{Report}
 use Rattle.report_record.specs.Report.{report_of, report_by, added, Plain, empty_report}
-use Rattle.report_record.specs.Possible.{most_lines, possible_report}
+use Rattle.report_record.specs.Possible.{most_lines}
 use Rattle.report_line.proofs.Passing.{report-passes}
 use Rattle.report.specs.declared.Reported.{Reported}
 use Rattle.report.specs.Calls.{with_line_refusal, with_line_answer}

@@ -21,7 +21,6 @@ use Rattle.report_record.specs.Report.{tally_at, channel_at, add_tally, add_chan
 use Rattle.report_record.specs.Possible.{most_lines, possible_report, record_refusal}
 use Rattle.report_record.proofs.Possible.{TallyFits, ChannelFits, Possible, possible_means, possible_made, record_passes}
 use Rattle.report_line.proofs.Passing.{report-possible}
-use Rattle.report.specs.declared.Reported.{Reported}
 use Rattle.report.specs.Calls.{full_refusal, with_line_refusal, with_line_answer, together_refusal, together_answer, reported}
 use Rattle.report.proofs.Answers.{reported_done, full_within, together_served, line_served}
 use Rattle.passes.proofs.Laws.{added_tally, added_channel, added_lines, added_comm, added_assoc, report_lines}

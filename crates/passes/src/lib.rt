@@ -8,3 +8,4 @@
 //   InBuffer   bytes behind a line's 44,356 have no part in its report
 //   Passes     the report of a recording in any cut is that of the lines that the plain definition finds
 //   Recordings two passes, each from its own recording; the lines of a recording pass 12
+#![tactic(auto)]

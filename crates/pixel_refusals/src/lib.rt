@@ -2,6 +2,8 @@
 //
 // The contracts cite `specs/Refusing.antt`, over what a sector of a line says (`specs/Sector.antt` of `sector_check`). All functions
 // are marked "Inner.".
+#![tactic(auto)]
+
 ghost use Rattle.std.specs.Prelude.{◌≡◌, ◌≤◌, length};
 ghost use Rattle.formats.specs.Formats.{line_bytes};
 ghost use Rattle.bits.specs.Bits.{bits_of};

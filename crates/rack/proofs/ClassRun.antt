@@ -1,7 +1,7 @@
 -- WHAT A CONSUMER READS by the calls that C and Rust make: at any moment of a class, from a line's publish to the consumer's own release,
 -- the line of that number in the recording, and pixels joined from it are that line's. Assumes nothing.
-use mathlib.Core.Bool.{Bool, true, false}
-use mathlib.Core.List.{List, [], ◌∷◌}
+use mathlib.Core.Bool.{true, false}
+use mathlib.Core.List.{List, ◌∷◌}
 use mathlib.Core.Path.{◌≡◌, refl, sym, ap, subst, ◌∙◌}
 use Prim.Native.Nat.{ℕ, suc, ◌-◌, ◌≤◌}
 use lib.ListN.{length, take, drop}
@@ -20,7 +20,7 @@ use Rattle.feeding.specs.Feeder.{Feeder}
 use Rattle.feeding.specs.OneLine.{OneSlot}
 use Rattle.feeding.proofs.Class.{class-seen}
 use Rattle.rack_recording.specs.declared.ReaderState.{ReaderState}
-use Rattle.rack_recording.specs.Recording.{kept_of, read_of, line_left}
+use Rattle.rack_recording.specs.Recording.{kept_of, line_left}
 use Rattle.rack_desk.specs.declared.LineDesk.{LineDesk}
 use Rattle.rack_desk.specs.LineDesk.{desk_handed, seen_of}
 use Rattle.rack.specs.ClassRun as run

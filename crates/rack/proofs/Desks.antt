@@ -19,7 +19,7 @@ use Rattle.desk_record.specs.declared.Desk.{Desk}
 use Rattle.desk_record.specs.Slots.{slot_of, let_go}
 use Rattle.desk_record.specs.Desks.{lowest_of, empty_desk, with_slot, taken_desk}
 use Rattle.desk.specs.declared.Taken.{Taken}
-use Rattle.desk.specs.Calls.{fresh_answer, take_answer, publish_answer, release_answer}
+use Rattle.desk.specs.Calls.{take_answer, publish_answer, release_answer}
 use Rattle.histories.proofs.Steps.{slot_same, take_kept, publish_kept, release_kept, took_it, published_it, released_it}
 use Rattle.rack_desk.specs.declared.DeskSlot.{DeskSlot}
 use Rattle.rack_desk.specs.declared.LineDesk.{LineDesk}

@@ -1,7 +1,7 @@
 -- THE REPORT OF A RECORDING by the calls that C and Rust make: in any cut, that of the lines which the plain definition finds. Assumes
 -- nothing.
 use mathlib.Core.Bool.{true, false}
-use mathlib.Core.List.{List, [], ◌∷◌}
+use mathlib.Core.List.{List, ◌∷◌}
 use mathlib.Core.Logic.{◌↔◌}
 use mathlib.Core.Path.{◌≡◌, refl, sym, ap, subst, ◌∙◌}
 use Prim.Native.Nat.{ℕ, suc, ◌≤◌}

@@ -1,28 +1,23 @@
 -- The report crosses the boundary and comes back unchanged, so that a call there is the call itself; and a refused one gives back the
 -- record that it was handed, every field of it. Assumes nothing.
-use mathlib.Core.Bool.{Bool, true, false, cond, ◌&&◌}
-use mathlib.Core.List.{List, []}
-use mathlib.Core.Path.{◌≡◌, refl, sym, ap, ◌∙◌}
+use mathlib.Core.Bool.{true}
+use mathlib.Core.List.{List}
+use mathlib.Core.Path.{◌≡◌, refl, ap, ◌∙◌}
 use Prim.Native.Nat.{ℕ, zero, suc, ◌<◌}
-use native.Mathlib.Omega.{arith}
 use lib.Dec.{leb}
 use lib.ListN.{length, replicate}
 use Rattle.refusals.specs.Refusals.{kept}
 use Rattle.report_record.specs.declared.Range.{Range}
 use Rattle.report_record.specs.declared.Range.TheVariants.{Absent, From}
-use Rattle.report_record.specs.declared.Tally.{Tally}
 use Rattle.report_record.specs.declared.Channel.{Channel}
 use Rattle.report_record.specs.declared.Report.{Report}
-use Rattle.report_record.specs.Sums.{row_of, all_of}
+use Rattle.report_record.specs.Sums.{row_of}
 use Rattle.report_record.specs.Report.{no_tally, no_channel, tally_at, channel_at, empty_report}
 use Rattle.report_record.proofs.Rows.{row_at, row_same, row_list, all_made, and_both}
 use Rattle.report_record.proofs.Adding.{channel_same}
-use Rattle.report.specs.declared.Reported.{Reported}
-use Rattle.report.specs.Calls.{with_line_answer, with_line_refusal, together_answer, together_refusal}
+use Rattle.report.specs.Calls.{with_line_answer, with_line_refusal, together_answer}
 use Rattle.passes.proofs.Laws.{report_same, Shaped, added_shaped}
-use Rattle.rack_report.specs.declared.SectorTally.{SectorTally}
 use Rattle.rack_report.specs.declared.ChannelTally.{ChannelTally}
-use Rattle.rack_report.specs.declared.PassReport.{PassReport}
 use Rattle.rack_report.specs.declared.ReportAnswer.{ReportAnswer}
 use Rattle.rack_report.specs.PassReport.{tally_handed, tally_given, channel_handed, channel_given, mark_of, no_sector, no_pixels, sector_at, pixels_at, report_handed, report_given, marked, answer_given, with_line_of, together_of}
 

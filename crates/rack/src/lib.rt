@@ -26,3 +26,4 @@
 //   Desks, ClassRun  the desk crosses and comes back; what a consumer reads is the line of its number
 //   Zeros    a refused answer there has its number and 0 elsewhere: one list
 //   UniqueAcross  any two results that a contract there allows are the same: one list
+#![tactic(auto)]

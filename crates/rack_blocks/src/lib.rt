@@ -8,6 +8,8 @@
 // checks a caller in C.
 //
 // A slice crosses as a pointer and a count; slices that are lent to one call must not overlap.
+#![tactic(auto)]
+
 ghost use Rattle.std.specs.Prelude.{◌≡◌};
 ghost use Rattle.blocks.specs.Record.{fresh_assembly};
 ghost use Rattle.segments.specs.Assembly.{add_segment_answer, add_segment_left};

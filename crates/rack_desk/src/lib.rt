@@ -4,6 +4,8 @@
 //
 // The contracts cite `specs/LineDesk.antt`, over the definitions of the calls themselves. No function has a `requires`: nothing
 // checks a caller in C.
+#![tactic(auto)]
+
 ghost use Rattle.std.specs.Prelude.{◌≡◌, ◌||◌, ◌<◌, eqb};
 ghost use Rattle.rack_desk.specs.LineDesk.{use_handed, slot_handed, desk_handed, holders_of, slot_given, desk_left, fresh_of, take_of, publish_of, release_of, seen_of};
 

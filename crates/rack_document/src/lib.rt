@@ -6,6 +6,8 @@
 // of the calls themselves. No function has a `requires`: nothing checks a caller in C.
 //
 // A slice crosses as a pointer and a count; slices that are lent to one call must not overlap.
+#![tactic(auto)]
+
 ghost use Rattle.std.specs.Prelude.{◌≡◌};
 ghost use Rattle.document.specs.Modes.{mode_name, mode_byte, scan_mode_answer, mirror_name, mirror_byte, scanner_select_answer};
 ghost use Rattle.document_stamps.specs.Lines.{line_numbers_answer};

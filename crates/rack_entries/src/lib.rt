@@ -6,6 +6,8 @@
 // caller in C.
 //
 // A slice crosses as a pointer and a count.
+#![tactic(auto)]
+
 ghost use Rattle.std.specs.Prelude.{◌≡◌};
 ghost use Rattle.entries.specs.Entries.{mapping_answer, elements_answer};
 ghost use Rattle.calibration.specs.Tables.{albedos, temperatures, level_answer, level_f64_answer};

@@ -7,6 +7,8 @@
 // function has a `requires`: nothing checks a caller in C.
 //
 // A slice crosses as a pointer and a count; slices that are lent to one call must not overlap.
+#![tactic(auto)]
+
 ghost use Rattle.std.specs.Prelude.{◌≡◌};
 ghost use Rattle.formats.specs.Formats.{format_of};
 ghost use Rattle.scramble.specs.Step.{step_answer, register_left};

@@ -7,6 +7,8 @@
 // function has a `requires`: nothing checks a caller in C.
 //
 // A slice crosses as a pointer and a count; slices that are lent to one call must not overlap.
+#![tactic(auto)]
+
 ghost use Rattle.std.specs.Prelude.{◌≡◌, length};
 ghost use Rattle.numbers.specs.Integers.{read_integer_answer};
 ghost use Rattle.numbers.specs.Decimals.{read_bcd_answer};

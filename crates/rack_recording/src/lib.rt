@@ -7,6 +7,8 @@
 // No function has a `requires`: nothing checks a caller in C.
 //
 // A slice crosses as a pointer and a count; slices that are lent to one call must not overlap.
+#![tactic(auto)]
+
 ghost use Rattle.std.specs.Prelude.{◌≡◌};
 ghost use Rattle.reader_record.specs.Records.{fresh_state};
 ghost use Rattle.writer.specs.Wire.{write_line_answer, write_line_left};

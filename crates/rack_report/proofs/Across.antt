@@ -1,11 +1,8 @@
 -- The record across the boundary, as the code makes it. Assumes nothing.
-use mathlib.Core.Path.{◌≡◌, refl, sym, ap, ap₂, ◌∙◌}
-use mathlib.Core.Bool.{Bool, true, false, cond, ◌&&◌}
+use mathlib.Core.Path.{◌≡◌, refl, sym, ap, ◌∙◌}
 use mathlib.Core.List.{List, [], ◌∷◌}
 use Prim.Native.Nat.{ℕ}
-use lib.Dec.{eqb}
 use borrow.Author.Tests.{eq-eqb, ne_eqb}
-use Rattle.refusals.specs.Refusals.{kept}
 use Rattle.refusals.proofs.Words.{kept_some, kept_none}
 use Rattle.report_record.specs.declared.Range.{Range}
 use Rattle.report_record.specs.declared.Range.TheVariants.{Absent, From}
@@ -18,7 +15,6 @@ use Rattle.report.specs.declared.Reported.{Reported}
 use Rattle.rack_report.specs.declared.SectorTally.{SectorTally}
 use Rattle.rack_report.specs.declared.ChannelTally.{ChannelTally}
 use Rattle.rack_report.specs.declared.PassReport.{PassReport}
-use Rattle.rack_report.specs.declared.ReportAnswer.{ReportAnswer}
 use Rattle.rack_report.specs.PassReport.{channel_handed, channel_given, least_of, largest_of, mark_of, tally_handed, tally_given, sector_at, pixels_at, report_handed, report_given, refused_report, answer_given}
 
 -- ---- a channel

@@ -4,6 +4,8 @@
 //
 // The contracts cite `specs/PassReport.antt`, over the definitions of the calls themselves. No function has a `requires`: nothing
 // checks a caller in C.
+#![tactic(auto)]
+
 ghost use Rattle.std.specs.Prelude.{◌≡◌, ℕ};
 ghost use mathlib.Core.Bool.{};
 ghost use Rattle.report_record.specs.Sums.{row_of};

@@ -6,6 +6,8 @@
 // nothing checks a caller in C.
 //
 // A slice crosses as a pointer and a count; slices that are lent to one call must not overlap.
+#![tactic(auto)]
+
 ghost use Rattle.std.specs.Prelude.{◌≡◌, length};
 ghost use Rattle.bits.specs.Bits.{bits_of};
 ghost use Rattle.sectors.specs.Calls.{accepted_answer, answers_answer, filler_answer};

@@ -2,6 +2,8 @@
 //
 // What the lines of a recording are is said in `specs/Lines.antt`; a reader bit by bit in `specs/Loops.antt`, over
 // `specs/Phase.antt` (one bit) and `specs/Call.antt` (one call). The function is inner.
+#![tactic(auto)]
+
 ghost use Rattle.std.specs.Prelude.{◌≡◌};
 ghost use Rattle.bits.specs.Bits.{digits};
 ghost use Rattle.reader_bits.specs.Lines.{is_tail};

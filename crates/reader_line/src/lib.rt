@@ -1,6 +1,8 @@
 // The answer of a call of the reader, and the end of a call that is in a line.
 //
 // The contract cites `specs/Answers.antt`. The function is inner: the call of the crate `reader` refuses instead.
+#![tactic(auto)]
+
 ghost use Rattle.line_bytes.specs.Spans.{FillIn};
 ghost use Rattle.reader_line.specs.Answers.{LineOk};
 

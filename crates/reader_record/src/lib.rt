@@ -2,6 +2,8 @@
 //
 // The contracts cite `specs/Records.antt`. `fresh` asks nothing of its caller, and no other function does but `fits`, which is
 // inner.
+#![tactic(auto)]
+
 ghost use Rattle.std.specs.Prelude.{◌≡◌, not, ◌≤◌, ◌^◌, ltb};
 ghost use Rattle.refusals.specs.Refusals.{when};
 ghost use Rattle.reader_record.specs.Records.{between_of, inside_of, fresh_state, counts_of, possible_of};

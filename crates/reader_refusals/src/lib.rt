@@ -1,6 +1,8 @@
 // What refuses a call of the reader: the format, the setting, the record and the buffer.
 //
 // The contracts cite `specs/Refusing.antt`. All functions are inner, and none has a `requires`.
+#![tactic(auto)]
+
 ghost use Rattle.std.specs.Prelude.{◌≡◌};
 ghost use Rattle.reader_refusals.specs.Refusing.{setting_refusal, read_refusal};
 

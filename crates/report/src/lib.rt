@@ -5,6 +5,8 @@
 // the refusals and the answer of each call.
 //
 // No public function has a `requires`. A line's buffer may be longer than 44,356 bytes.
+#![tactic(auto)]
+
 ghost use Rattle.std.specs.Prelude.{◌≡◌};
 ghost use Rattle.report_record.specs.Report.{empty_report};
 ghost use Rattle.report.specs.Calls.{full_refusal, with_line_refusal, with_line_answer, together_refusal, together_answer};

@@ -1,15 +1,13 @@
 -- The loops over the pixels of one line: once i of them are read, what is folded is their channel. Assumes nothing.
 use mathlib.Core.Path.{◌≡◌, refl, sym, ap, ap₂, ◌∙◌}
 use mathlib.Core.List.{List, [], ◌∷◌, ◌++◌}
-use Prim.Native.Nat.{ℕ, ◌+◌, ◌*◌, min, max}
+use Prim.Native.Nat.{ℕ, ◌+◌, ◌*◌}
 use native.Mathlib.Nat.{add-zero}
 use lib.ListN.{length, drop}
 use Rattle.bits.specs.Bits.{bits_of, part, number_of, fields_of}
 use Rattle.bits.proofs.Fields.{length_fields, field_turn}
-use Rattle.sector_check.specs.Sector.{joined_pixel, joined_of}
+use Rattle.sector_check.specs.Sector.{joined_of}
 use Rattle.sector_check.proofs.Pairs.{joined_more}
-use Rattle.report_record.specs.declared.Range.TheVariants.{From}
-use Rattle.report_record.specs.declared.Channel.{Channel}
 use Rattle.report_record.specs.Sums.{total_of}
 use Rattle.report_record.specs.Report.{range_of, channel_of, add_channel}
 use Rattle.report_record.proofs.Adding.{channel_append, channel_same}

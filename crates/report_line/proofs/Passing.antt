@@ -1,29 +1,28 @@
 -- EVERY REPORT of at most 100,000 lines is possible: its counts add up, and no count or sum is above what its lines allow.
 -- Assumes nothing.
-use mathlib.Core.Path.{◌≡◌, refl, sym, ap, ap₂, subst, ◌∙◌}
-use mathlib.Core.Bool.{Bool, true, false, not, cond, ◌&&◌}
+use mathlib.Core.Path.{◌≡◌, refl, sym, ap, subst, ◌∙◌}
+use mathlib.Core.Bool.{Bool, true, false, not, cond}
 use mathlib.Core.List.{List, [], ◌∷◌, map}
-use Prim.Native.Nat.{ℕ, zero, suc, ◌+◌, ◌*◌, ◌^◌, ◌≤◌, ◌<◌, min}
-use native.Mathlib.Nat.{pow-le-pow_right, lt_of_lt_of_le, mul-le-mul_left}
+use Prim.Native.Nat.{ℕ, zero, suc, ◌+◌, ◌*◌, ◌^◌, ◌≤◌, ◌<◌}
+use native.Mathlib.Nat.{pow-le-pow_right, lt_of_lt_of_le}
 use native.Mathlib.Omega.{arith}
 use lib.Dec.{eqb}
-use lib.ListN.{length, get_or, take, drop, length-append, length-take}
-use borrow.Author.Tests.{eqb-true, eqb-false}
+use lib.ListN.{length, take, drop, length-append, length-take}
+use borrow.Author.Tests.{eqb-false}
 use Rattle.bits.specs.Bits.{number_of, set_bits, fields_of, Below, stretch, in_arow}
 use Rattle.bits.proofs.Through.{number_lt}
 use Rattle.bits.proofs.Counts.{set_le}
-use Rattle.bits.proofs.Below.{below_take, below_drop, below_append}
+use Rattle.bits.proofs.Below.{below_take, below_drop}
 use Rattle.bits.proofs.Fields.{length_fields}
 use Rattle.crc_step.specs.Remainder.{remainder_of}
 use Rattle.sector_table.specs.declared.layout.Layout.{Layout}
 use Rattle.refusals.specs.Refusals.{first, when}
 use Rattle.sector_table.specs.Layout.{layout_of, upper_of, lower_of, data_at, filler_at, filler_bits}
 use Rattle.sector_check.specs.Sector.{covered_of, id_of, answer_of, filler_of, data_bits_of, pixels_of, joined_of}
-use Rattle.report_record.specs.declared.Report.{Report}
 use Rattle.report_record.specs.declared.Channel.{Channel}
 use Rattle.report_record.specs.declared.Tally.{Tally}
-use Rattle.report_record.specs.Sums.{total_of, row_of}
-use Rattle.report_record.specs.Report.{lines_answering, filler_in, tally_of, given, accepts, pair_pixels, wide_pixels, ir_pixels, pixels_in, channel_of, report_by, Plain, no_tally, no_channel, tally_at, channel_at}
+use Rattle.report_record.specs.Sums.{total_of}
+use Rattle.report_record.specs.Report.{lines_answering, filler_in, tally_of, given, pair_pixels, wide_pixels, ir_pixels, pixels_in, channel_of, report_by, Plain, no_tally, no_channel}
 use Rattle.report_record.specs.Possible.{most_lines, possible_report}
 use Rattle.report_record.proofs.Rows.{row_at}
 use Rattle.report_record.proofs.Adding.{total_append}

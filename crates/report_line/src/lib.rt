@@ -5,6 +5,8 @@
 // the way.
 //
 // All functions here are inner: they ask for a buffer that holds the line.
+#![tactic(auto)]
+
 ghost use Rattle.std.specs.Prelude.{◌≡◌, ◌&&◌, ◌+◌, ◌*◌, ◌^◌, ◌≤◌, ◌<◌, eqb, length, drop};
 ghost use Rattle.formats.specs.Formats.{line_bytes};
 ghost use Rattle.bits.specs.Bits.{bits_of, part, number_of, fields_of};

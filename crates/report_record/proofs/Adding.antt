@@ -1,18 +1,17 @@
 -- Sums and channels over lists one after the other. Assumes nothing.
-use mathlib.Core.Path.{◌≡◌, refl, sym, ap, ap₂, subst, ◌∙◌}
+use mathlib.Core.Path.{◌≡◌, refl, sym, ap, ap₂, ◌∙◌}
 use mathlib.Core.List.{List, [], ◌∷◌, ◌++◌, map, append_assoc, append-nil}
-use Prim.Native.Nat.{ℕ, zero, suc, ◌+◌, ◌≤◌, ◌<◌}
-use native.Mathlib.Nat.{add_assoc, add-zero}
+use Prim.Native.Nat.{ℕ, ◌+◌}
+use native.Mathlib.Nat.{add_assoc}
 use native.Mathlib.Omega.{arith}
-use lib.ListN.{length, length-append}
+use lib.ListN.{length-append}
 use Rattle.bits.specs.Bits.{in_arow}
 use Rattle.report_record.specs.declared.Range.{Range}
-use Rattle.report_record.specs.declared.Range.TheVariants.{Absent, From}
 use Rattle.report_record.specs.declared.Tally.{Tally}
 use Rattle.report_record.specs.declared.Channel.{Channel}
 use Rattle.report_record.specs.Sums.{total_of}
-use Rattle.report_record.specs.Report.{wider, range_of, channel_of, add_channel, no_channel}
-use Rattle.report_record.proofs.Ranges.{range_append, wider_comm, wider_assoc, wider_absent}
+use Rattle.report_record.specs.Report.{range_of, channel_of, add_channel, no_channel}
+use Rattle.report_record.proofs.Ranges.{range_append}
 
 pub total_append : {A : Type 0} (m : A → ℕ) (xs ys : List A) → total_of m (xs ++ ys) ≡ total_of m xs + total_of m ys
 unfolding total_of

@@ -1,11 +1,11 @@
 -- What is known of a record that is possible. Assumes nothing.
-use mathlib.Core.Path.{◌≡◌, refl, sym, ap, subst, ◌∙◌}
+use mathlib.Core.Path.{◌≡◌, refl, sym}
 use mathlib.Core.Bool.{Bool, true, false, not, ◌&&◌}
-use Prim.Native.Nat.{ℕ, zero, suc, ◌+◌, ◌*◌, ◌^◌, ◌≤◌, ◌<◌}
+use Prim.Native.Nat.{ℕ, ◌+◌, ◌*◌, ◌^◌, ◌≤◌, ◌<◌}
 use native.Mathlib.Omega.{arith}
-use lib.Dec.{eqb, leb, ltb}
-use borrow.Author.Tests.{eqb-true, leb-true, ltb-false, not-false, eq-eqb, le-leb, ne_eqb, lt-leb}
-use Rattle.refusals.specs.Refusals.{first, when}
+use lib.Dec.{eqb, leb}
+use borrow.Author.Tests.{eqb-true, leb-true, not-false, eq-eqb, le-leb, ne_eqb, lt-leb}
+use Rattle.refusals.specs.Refusals.{when}
 use Rattle.refusals.proofs.Words.{none_when}
 use Rattle.report_record.specs.declared.Tally.{Tally}
 use Rattle.report_record.specs.declared.Channel.{Channel}

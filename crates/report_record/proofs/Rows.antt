@@ -6,8 +6,8 @@ use Prim.Native.Nat.{ℕ, zero, suc, ◌+◌, ◌≤◌, ◌<◌}
 use native.Mathlib.Nat.{not-suc-le-zero}
 use native.Mathlib.Numerals.{add-one}
 use native.Mathlib.Omega.{arith}
-use lib.Dec.{eqb, ltb}
-use lib.ListN.{length, get_or, take, set, length-append, length-set, get_or-append}
+use lib.Dec.{eqb}
+use lib.ListN.{length, get_or, take, set, length-append, get_or-append}
 use lib.Seq.{take-suc, take-suc-set, take_all, get_or_at}
 use borrow.Author.Tests.{eqb-true, eqb-false}
 use Rattle.report_record.specs.Sums.{row_of, all_of}

@@ -4,6 +4,8 @@
 // The contracts cite `specs/Report.antt`, what the record is, and `specs/Possible.antt`, refusal 12.
 //
 // All functions here are inner; those that add ask for room, so that no sum is over 64 bits.
+#![tactic(auto)]
+
 ghost use Rattle.std.specs.Prelude.{◌≡◌, ◌+◌, ◌^◌, ◌≤◌, ◌<◌, min, max};
 ghost use Rattle.report_record.specs.Report.{wider, add_tally, add_channel, no_tally, no_channel};
 ghost use Rattle.report_record.specs.Possible.{most_lines, sound_tally, sound_channel};

@@ -5,6 +5,8 @@
 //
 // All functions here are inner; those that add ask that both are possible, so that no sum is over 64 bits, and those on a line for a
 // buffer that holds it.
+#![tactic(auto)]
+
 ghost use Rattle.std.specs.Prelude.{◌≡◌, true, [], ◌∷◌, ℕ, suc, ◌≤◌, length};
 ghost use Rattle.formats.specs.Formats.{line_bytes};
 ghost use Rattle.bits.specs.Bits.{bits_of};

@@ -3,6 +3,8 @@
 //
 // The contracts cite `specs/Carried.antt`, over the record of an assembly in `blocks`. All functions here are inner: `copies`
 // and `segments` ask them once a line carries a segment.
+#![tactic(auto)]
+
 ghost use Rattle.std.specs.Prelude.{◌≡◌, ◌≤◌, length};
 ghost use Rattle.formats.specs.Formats.{line_bytes};
 ghost use Rattle.revisions.specs.Carried.{revisions_in, foreign_refusal, remembered as Carried·remembered};

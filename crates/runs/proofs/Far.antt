@@ -1,7 +1,7 @@
 -- THE RULE AT EVERY DISTANCE 2 ^ j: each scrambling bit is the exclusive or of the bits 14 and 15 times 2 ^ j places earlier. So a run
 -- of any width is that of two earlier runs, and a word of 2 ^ j bits that of two earlier words. Assumes nothing.
 use mathlib.Core.Path.{◌≡◌, refl, sym, ap, ap₂, ◌∙◌}
-use mathlib.Core.List.{List, [], ◌∷◌}
+use mathlib.Core.List.{List, ◌∷◌}
 use Prim.Native.Nat.{ℕ, zero, suc, ◌+◌, ◌*◌, ◌%◌, ◌^◌, ◌<◌}
 use native.Mathlib.Nat.{pow-suc, add-mul, one-mul, mod-eq_of_lt}
 use native.Mathlib.Omega.{arith}

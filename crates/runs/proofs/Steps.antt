@@ -10,9 +10,9 @@ use Rattle.bits.specs.Bits.{digits, mixed, in_arow}
 use Rattle.bits.proofs.Digits.{length_digits}
 use Rattle.bits.proofs.Mixed.{digits_xor}
 use Rattle.scramble.specs.Register.{new_bit, next_register, register_after, scrambling_bits}
-use Rattle.scramble.specs.Wire.{complemented, scrambled, wire_of, plain_of}
+use Rattle.scramble.specs.Wire.{complemented, scrambled, wire_of}
 use Rattle.wire.proofs.Wire.{plain_wire, wire_append}
-use Rattle.runs.specs.Runs.{key_of, groups_of, quickly, QuickAt, Quick, in_runs}
+use Rattle.runs.specs.Runs.{quickly, Quick, in_runs}
 use Rattle.runs.proofs.Keys.{key_bits, key_register}
 use Rattle.runs.proofs.Groups.{group_bits, groups_bits}
 

@@ -1,16 +1,16 @@
 -- WORDS OF THE KEY, eight bytes each, the first the lowest: a word comes from the two before it by the rule at distance 8, byte by byte;
 -- the register after a word; and words of the groups. Assumes nothing.
-use mathlib.Core.Path.{◌≡◌, refl, sym, ap, ap₂, ◌∙◌}
-use Prim.Native.Nat.{ℕ, zero, suc, ◌+◌, ◌-◌, ◌*◌, ◌/◌, ◌%◌, ◌^◌, ◌≤◌, ◌<◌}
-use native.Mathlib.Nat.{zero-add, suc-add, add_assoc, add_comm, suc-mul, mul_assoc, mod-lt, mod-eq_of_lt, le_of_suc-le-suc, pow-zero}
+use mathlib.Core.Path.{◌≡◌, sym, ap, ap₂, ◌∙◌}
+use Prim.Native.Nat.{ℕ, suc, ◌+◌, ◌-◌, ◌*◌, ◌/◌, ◌%◌, ◌^◌, ◌≤◌, ◌<◌}
+use native.Mathlib.Nat.{mod-lt, mod-eq_of_lt}
 use native.Mathlib.Omega.{arith}
-use lib.Bits.{bit_and, bit_or, bit_xor, xor_block, or_shifted, and_mask}
+use lib.Bits.{bit_xor}
 use lib.Dec.{lit≤}
-use lib.Pow.{pow-add, pow_pos, high, low, shl-shr, shr-shr, mod-pow-add}
+use lib.Pow.{pow_pos, high, shr-shr}
 use Rattle.bits.specs.LowFirst.{low_first}
 use Rattle.bits.proofs.LowFirst.{Bytes, low_same, low_lt, low_xor, low_split, low_two, moved_on}
 use Rattle.bits.proofs.Xor.{xor_assoc, xor_swap}
-use Rattle.scramble.specs.Register.{register_after, scrambling_bits}
+use Rattle.scramble.specs.Register.{register_after}
 use Rattle.scramble.proofs.Steps.{next_lt, after_more}
 use Rattle.wire.proofs.Rule.{after_add}
 use Rattle.runs.specs.Runs.{groups_of}

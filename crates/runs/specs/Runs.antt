@@ -1,6 +1,6 @@
 -- MANY BITS A STEP. What is put on w bits at once: the key, which is two digits of the register for each bit, and the groups of
 -- complementing. The bit rule stays the definition (`scramble/specs/Register`, `scramble/specs/Wire`). Assumes nothing.
-use Rattle.std.specs.Prelude.{◌≡◌, List, [], ◌∷◌, ◌++◌, ℕ, zero, suc, ◌+◌, ◌-◌, ◌*◌, ◌/◌, ◌%◌, ◌^◌, ◌≤◌, length}
+use Rattle.std.specs.Prelude.{◌≡◌, List, [], ◌∷◌, ◌++◌, ℕ, ◌+◌, ◌-◌, ◌*◌, ◌/◌, ◌%◌, ◌^◌, ◌≤◌, length}
 use Rattle.std.specs.Int.Bits.{bit_xor}
 use Rattle.bits.specs.Bits.{digits}
 use Rattle.scramble.specs.Register.{register_after, scrambling_bits}

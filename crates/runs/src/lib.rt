@@ -7,3 +7,4 @@
 //   Steps     THE QUICK WAY AND THE BIT RULE GIVE THE SAME; any division into steps does
 //   Far       the rule at every distance 2 ^ j, and words of the key
 //   Words     bytes of the key put together as words, the first byte the lowest
+#![tactic(auto)]

@@ -4,6 +4,8 @@
 // The contracts cite `specs/Register.antt` (the register and its bits), `specs/Step.antt` (what a step answers and leaves) and
 // `specs/Wire.antt` (complementing and scrambling); `specs/Sync.antt` says what SYNC and the tail are. The two steps ask nothing
 // of their caller; the other functions are inner, and say so.
+#![tactic(auto)]
+
 ghost use Rattle.std.specs.Prelude.{◌≡◌, ◌%◌, ◌<◌};
 ghost use Rattle.scramble.specs.Register.{new_bit, next_register};
 ghost use Rattle.scramble.specs.Step.{StepOk, register_left};

@@ -3,6 +3,8 @@
 //
 // The contracts cite `specs/Sector.antt`, what a sector of a line says, its filler, data and pixels too. All functions are marked
 // "Inner.". A line's buffer may be longer than 44,356 bytes.
+#![tactic(auto)]
+
 ghost use Rattle.std.specs.Prelude.{◌≡◌, ◌≤◌, length};
 ghost use Rattle.formats.specs.Formats.{line_bytes};
 ghost use Rattle.bits.specs.Bits.{bits_of};

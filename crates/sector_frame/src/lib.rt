@@ -2,4 +2,6 @@
 // into it in `sector_rows`, and the calls are in `sector_writer`.
 //
 // The contracts cite `specs/Written.antt`. All functions are marked "Inner.".
+#![tactic(auto)]
+
 pub mod frame;

@@ -7,3 +7,4 @@
 //   Carried    what was put into a sector last, the line's bits carry, also after calls on other sectors
 //   Rounds     and so it comes back by the calls that read
 //   Points     P3 to P7 of document 01
+#![tactic(auto)]

@@ -2,6 +2,8 @@
 // these functions ask of their caller, are in `sector_writer`.
 //
 // The contracts cite `specs/Written.antt` of `sector_frame`. All functions are marked "Inner.".
+#![tactic(auto)]
+
 ghost use Rattle.std.specs.Prelude.{◌≡◌, ◌++◌, ◌+◌, ◌≤◌, length, take, drop};
 ghost use Rattle.formats.specs.Formats.{line_bytes};
 ghost use Rattle.bits.specs.Bits.{bits_of};

@@ -6,4 +6,6 @@
 // is read back is in `sector_rounds`.
 //
 // No public function has a `requires`. A line's buffer may be longer than 44,356 bytes.
+#![tactic(auto)]
+
 pub mod write;

@@ -5,4 +5,6 @@
 // (`specs/Sector.antt` of `sector_check`) and the refusals in the paper's order, which are in `sector_table`.
 //
 // No public function has a `requires`, but the one marked "Inner.", which the crates above use. A line's buffer may be longer than 44,356 bytes.
+#![tactic(auto)]
+
 pub mod check;

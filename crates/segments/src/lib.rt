@@ -6,6 +6,8 @@
 // the tables, is in `assemblies`.
 //
 // No public function has a `requires`. A buffer may be longer than its block.
+#![tactic(auto)]
+
 ghost use Rattle.std.specs.Prelude.{◌≡◌};
 ghost use Rattle.blocks.specs.Blocks.{block_of};
 ghost use Rattle.copies.specs.Copies.{Placeable};

@@ -4,6 +4,8 @@
 //
 // All functions here are inner: those that read a slice ask that the places they are given lie in it, and the calls above,
 // which users make, refuse instead.
+#![tactic(auto)]
+
 ghost use Rattle.std.specs.Prelude.{◌≡◌, ◌+◌, ◌*◌, ◌%◌, ◌^◌, ◌≤◌, ◌<◌, length};
 ghost use Rattle.bits.specs.Bits.{part, set_bits};
 

@@ -3,6 +3,8 @@
 // `word_ones`.
 //
 // All functions here are inner: they ask that the places they are given lie in the slice.
+#![tactic(auto)]
+
 ghost use Rattle.std.specs.Prelude.{◌≡◌, ◌+◌, ◌*◌, ◌^◌, ◌≤◌, ◌<◌, length};
 ghost use Rattle.bits.specs.Bits.{part, set_bits};
 

@@ -6,6 +6,8 @@
 //
 // All functions here are inner: each asks that the places it is given lie in the slice, and the calls above, which users make,
 // refuse instead.
+#![tactic(auto)]
+
 ghost use Rattle.std.specs.Prelude.{◌≡◌, ◌++◌, ◌+◌, ◌*◌, ◌^◌, ◌≤◌, ◌<◌, length, take, drop, set};
 ghost use Rattle.bits.specs.Bits.{bits_of, digits, packed_of};
 

@@ -5,4 +5,6 @@
 // numbers themselves are read by the crate `bcd_dates`.
 //
 // All functions here are inner: each asks that the bytes are there, and the calls above, which users make, refuse instead.
+#![tactic(auto)]
+
 pub mod stamp;

@@ -2,6 +2,8 @@
 //
 // The contracts cite `specs/Put.antt`, over `SYNC` of the crate `scramble`. `put_sync` asks nothing of its caller; `before_sync` is
 // inner.
+#![tactic(auto)]
+
 ghost use Rattle.std.specs.Prelude.{◌≡◌};
 ghost use Rattle.sync.specs.Put.{before_sync, PutSyncOk, put_sync_left};
 

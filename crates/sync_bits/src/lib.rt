@@ -1,6 +1,8 @@
 // Scrambling bits alone, put into a slice: what SYNC is made of.
 //
 // The contracts cite `specs/Register.antt`, `specs/Step.antt` and `specs/Wire.antt` of `scramble`. All functions are inner.
+#![tactic(auto)]
+
 ghost use Rattle.std.specs.Prelude.{◌≡◌, ◌++◌, ◌+◌, ◌*◌, ◌^◌, ◌≤◌, ◌<◌, length, take, drop, set, replicate};
 ghost use Rattle.bits.specs.Bits.{bits_of};
 ghost use Rattle.scramble.specs.Register.{new_bit, next_register, register_after, scrambling_bits};

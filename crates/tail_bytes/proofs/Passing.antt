@@ -1,15 +1,15 @@
 -- Why a byte is passed over: of a window that ends in it the bits before it are known, and where they differ from the tail, the
 -- window does. Assumes nothing.
 use mathlib.Core.Bool.{true, false, not, false≢true}
-use mathlib.Core.Path.{◌≡◌, refl, sym, ap, ap₂, ◌∙◌}
+use mathlib.Core.Path.{◌≡◌, sym, ap, ap₂, ◌∙◌}
 use Prim.Native.Nat.{ℕ, zero, suc, ◌+◌, ◌-◌, ◌*◌, ◌/◌, ◌%◌, ◌^◌, ◌≤◌, ◌<◌}
 use mathlib.Core.List.{[], ◌∷◌}
-use native.Mathlib.Nat.{add-zero, le_trans, le_of_eq, mod-lt, mod-mod, lt_of_le_of_lt, lt_of_lt_of_le}
+use native.Mathlib.Nat.{add-zero, mod-lt, mod-mod, lt_of_le_of_lt, lt_of_lt_of_le}
 use native.Mathlib.Omega.{arith}
 use borrow.Author.Tests.{lt-leb, eq-eqb, ne_eqb}
 use lib.Bits.{bit_and, bit_xor, and_le_r, and_shr, xor_shr, xor_comm}
 use lib.Dec.{eqb, lit≤}
-use lib.ListN.{length, take}
+use lib.ListN.{take}
 use lib.Pow.{high, pow_pos, shl-shr}
 use Rattle.bits.specs.Bits.{digits, set_bits, apart}
 use Rattle.bits.proofs.Counts.{set_one, set_wider}

@@ -1,6 +1,8 @@
 // Whether a whole byte can be passed over in the search for the tail: a test of the bits before it that asks nothing of the byte itself.
 //
 // The contracts cite `specs/Clear.antt`, over the definitions of `reader_bits`. The functions are inner.
+#![tactic(auto)]
+
 ghost use Rattle.std.specs.Prelude.{◌≡◌, true, ◌<◌, ◌^◌, ltb};
 ghost use Rattle.tail_bytes.specs.Clear.{Clear, unlike};
 

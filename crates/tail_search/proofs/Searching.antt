@@ -25,7 +25,7 @@ use Rattle.reader_bits.specs.Phase.{Phase, seeking, within, phaseNext, buffer_ne
 use Rattle.tail_search.specs.declared.Sought.TheVariants.{Found, Nothing}
 use Rattle.reader_bits.proofs.Resume.{bit_lt, resume-bit}
 use Rattle.reader_bits.proofs.Going.{going-byte, going_end}
-use Rattle.reader_bits.proofs.Masks.{stays, under_63}
+use Rattle.reader_bits.proofs.Masks.{stays}
 use Rattle.tail_bytes.specs.Clear.{Clear}
 
 -- what is taken modulo m first

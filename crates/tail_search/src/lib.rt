@@ -2,6 +2,8 @@
 //
 // The contract cites `specs/Search.antt`, over the definitions of `reader_bits`. The function is inner: the call of the crate `reader`
 // refuses instead.
+#![tactic(auto)]
+
 ghost use Rattle.std.specs.Prelude.{◌≡◌, ◌<◌, ◌≤◌, ◌^◌, length};
 ghost use Rattle.tail_search.specs.Search.{PassedOk, SoughtOk};
 

@@ -2,6 +2,8 @@
 // are in `pixels`.
 //
 // The contracts cite `specs/Sector.antt` of `sector_check`, what a sector of a line says. All functions are marked "Inner.".
+#![tactic(auto)]
+
 ghost use Rattle.std.specs.Prelude.{◌≡◌, ◌++◌, ◌+◌, ◌-◌, ◌*◌, ◌^◌, ◌≤◌, ◌<◌, length, drop};
 ghost use Rattle.formats.specs.Formats.{line_bytes};
 ghost use Rattle.bits.specs.Bits.{bits_of, part, number_of};

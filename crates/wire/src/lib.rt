@@ -3,3 +3,4 @@
 //
 //   Rule   the scrambling bits keep the rule, each the exclusive or of those 14 and 15 places earlier; many steps
 //   Wire   bits on the wire in parts, and made plain again: the way back, and a line bit by bit
+#![tactic(auto)]

@@ -1,6 +1,8 @@
 // Bits of a slice put on the wire and made plain again: whole bytes by words, others one after the other by the rule of `scramble`.
 //
 // The contracts cite `specs/Register.antt` and `specs/Wire.antt` of `scramble`, and `specs/Mixed.antt` of `runs`. The functions are inner.
+#![tactic(auto)]
+
 ghost use Rattle.std.specs.Prelude.{◌≡◌, ◌++◌, ◌+◌, ◌*◌, ◌^◌, ◌≤◌, ◌<◌, length, take, drop};
 ghost use Rattle.bits.specs.Bits.{bits_of, part};
 ghost use Rattle.scramble.specs.Register.{register_after};

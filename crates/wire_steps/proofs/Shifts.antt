@@ -1,10 +1,10 @@
 -- The shifts and masks of the code: a step of w bits, the groups, a byte put on the wire, and the words of the key. Assumes nothing.
-use mathlib.Core.Path.{◌≡◌, refl, sym, ap, ap₂, ◌∙◌}
-use Prim.Native.Nat.{ℕ, zero, suc, ◌+◌, ◌-◌, ◌*◌, ◌/◌, ◌%◌, ◌^◌, ◌≤◌, ◌<◌}
-use native.Mathlib.Nat.{mod-lt, mod-eq_of_lt, one-mul, mul-mod_left, add-zero}
+use mathlib.Core.Path.{◌≡◌, refl, sym, ap, ◌∙◌}
+use Prim.Native.Nat.{ℕ, ◌+◌, ◌-◌, ◌*◌, ◌/◌, ◌%◌, ◌^◌, ◌≤◌, ◌<◌}
+use native.Mathlib.Nat.{mod-lt, mod-eq_of_lt, one-mul}
 use native.Mathlib.Omega.{arith}
-use lib.Bits.{bit_and, bit_or, bit_xor, and_mask, or_shifted, or_shifted_r, mask_lt}
-use lib.Pow.{shl-shr, shl_exact, mod-pow-add, mod-mod-pow, high, low, pow_pos, pow-lt, shr_lt}
+use lib.Bits.{bit_and, bit_or, bit_xor, and_mask, or_shifted}
+use lib.Pow.{mod-mod-pow, pow_pos, pow-lt, shr_lt}
 use Rattle.bits.specs.Bits.{digits}
 use Rattle.bits.specs.LowFirst.{low_first}
 use Rattle.bits.proofs.LowFirst.{low_more}
@@ -13,11 +13,11 @@ use Rattle.scramble.specs.Register.{register_after}
 use Rattle.scramble.specs.Wire.{wire_of}
 use Rattle.wire.proofs.Rule.{after_add}
 use Rattle.runs.specs.Runs.{key_of, groups_of}
-use Rattle.runs.specs.Words.{key_at, key_byte, key_word, group_word}
+use Rattle.runs.specs.Words.{key_at, key_byte, group_word}
 use Rattle.runs.proofs.Keys.{key_number, key_register}
 use Rattle.runs.proofs.Groups.{groups_bits}
 use Rattle.runs.proofs.Steps.{wire_by}
-use Rattle.runs.proofs.Far.{key_at_lt, key_digits}
+use Rattle.runs.proofs.Far.{key_digits}
 use Rattle.runs.proofs.Words.{key_byte_lt, groups_by, groups_word}
 
 -- ---- a step of w bits

@@ -2,6 +2,8 @@
 //
 // The contracts cite the bit rule (`Register` and `Wire` of `scramble`), and `specs/Words` of `runs` for what a word is: eight bytes, the
 // first the lowest, so that a word of a slice is one load and one store. All functions are inner.
+#![tactic(auto)]
+
 ghost use Rattle.std.specs.Prelude.{◌≡◌, ◌≤◌, ◌<◌, ◌^◌};
 ghost use Rattle.bits.specs.Bits.{digits};
 ghost use Rattle.scramble.specs.Register.{register_after};

@@ -6,7 +6,7 @@ use native.Mathlib.Nat.{add-zero, add_assoc}
 use native.Mathlib.Omega.{arith}
 use lib.Bits.{bit_xor, xor_lt}
 use lib.Dec.{lit≤}
-use lib.ListN.{length, get_or, set}
+use lib.ListN.{length, get_or}
 use Rattle.bits.specs.Bits.{digits}
 use Rattle.bits.specs.LowFirst.{low_first, bytes_from, stored}
 use Rattle.bits.proofs.LowFirst.{Bytes, low_at, low_xor, stored_behind}

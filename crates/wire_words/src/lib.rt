@@ -2,6 +2,8 @@
 //
 // The contracts cite `specs/Mixed` of `runs`: n bytes from a place and a register on, by the bit rule of `scramble`. All functions are
 // inner: each asks that the places it is given lie in the slice.
+#![tactic(auto)]
+
 ghost use Rattle.std.specs.Prelude.{◌+◌, ◌*◌, ◌^◌, ◌≤◌, ◌<◌, length};
 ghost use Rattle.runs.specs.Mixed.{Mixed};
 

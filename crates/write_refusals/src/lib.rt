@@ -2,6 +2,8 @@
 // width. The calls are in `sector_writer`.
 //
 // The contracts cite `specs/Refusing.antt`. All functions are marked "Inner.".
+#![tactic(auto)]
+
 ghost use Rattle.std.specs.Prelude.{◌≡◌, ◌^◌, ◌≤◌, take};
 ghost use Rattle.write_refusals.specs.Refusing.{over_of, input_short, put_data_answer, put_pixels_answer};
 

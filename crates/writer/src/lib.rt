@@ -3,6 +3,8 @@
 //
 // The contract cites `specs/Wire.antt`: `on_wire` is one line on the wire, and `WriteLineOk` and `write_line_left` say what the
 // call answers and leaves in its output, for every input. `write_line` has no `requires`.
+#![tactic(auto)]
+
 ghost use Rattle.std.specs.Prelude.{◌≡◌, ◌++◌, ◌*◌, take, drop};
 ghost use Rattle.bits.specs.Bits.{bits_of};
 ghost use Rattle.writer.specs.Wire.{on_wire, WriteLineOk, write_line_left, CanPut};

@@ -1,6 +1,5 @@
 -- `copies::place_refusal` meets its contract. Assumes nothing.
 use mathlib.Core.Path.{sym, subst, ◌∙◌}
-use borrow.Author.Tests.{not-true, not-false}
 use Rattle.blocks.specs.declared.block.Block.{Block}
 use Rattle.copies.specs.Copies.{Placeable}
 use Rattle.copies.proofs.Bytes.{refused-stored, refused-new}

@@ -1,6 +1,6 @@
 -- `desk_refusals::rest_refusal` meets its contract. Assumes nothing.
 use mathlib.Core.Path.{refl, sym, ◌∙◌}
-use borrow.Author.Tests.{not-true, not-false, lt-ltb, le-ltb}
+use borrow.Author.Tests.{lt-ltb, le-ltb}
 use Rattle.refusals.specs.Refusals.{first, when, short_of}
 use Rattle.desk_refusals.specs.Asked.{rest_refusal}
 use Rattle.desk_refusals.proofs.rest_refusal.Goals as goal

@@ -4,7 +4,6 @@ use mathlib.Core.Bool.{Bool, ◌||◌, not}
 use Prim.Native.Nat.{ℕ, ◌+◌, ◌-◌}
 use native.Mathlib.Nat.{sub-zero}
 use native.Mathlib.Omega.{arith}
-use borrow.Author.Tests.{not-true, not-false}
 use Rattle.desk_record.specs.declared.Desk.{Desk}
 use Rattle.desk_record.specs.Slots.{slot_of, is_free, serial_of}
 use Rattle.desk_record.specs.Desks.{busy_from, possible_from}

@@ -65,8 +65,7 @@ loop-left-2-preserved-then-place-eq7 c =
 
 pub loop-left-2-preserved : goal.loop-left-2-preserved
 loop-left-2-preserved c =
-    let at_plain = c.before.before.before.before in
-    (
+    let at_plain = c.before.before.before.before in (
       c.loop-left-2.invariant.0,
       fills-wait c.loop-left-2.invariant.1 c.mix_bit-plain.result.bit c.mix_bit-plain.result.next.bits
           (plain_of _ _ _ _ _ c.mix_bit-plain.ensures.1) c.mix_bit-plain.ensures.0 (omega (arith, at_plain.before)) c.if-place-eq7.false,

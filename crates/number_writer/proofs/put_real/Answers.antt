@@ -31,13 +31,13 @@ returns-then-refused-ne0 c =
 pub sign_weight-weight-requires : goal.sign_weight-weight-requires
 sign_weight-weight-requires c =
     let known : let a = c.args in (no_real a.n a.m ≡ false) × (a.magnitude < 2 ^ magnitude_bits a.n) × (a.n ≤ length a.out.now) =
-      put_passed _ _ _ _ (sym c.put_refusal-refused.ensures ∙ c.if-refused-ne0.false) in
+    put_passed _ _ _ _ (sym c.put_refusal-refused.ensures ∙ c.if-refused-ne0.false) in
     let f = real_form _ _ known.0 in search rules
 
 pub put_together-requires : goal.put_together-requires
 put_together-requires c =
     let known : let a = c.args in (no_real a.n a.m ≡ false) × (a.magnitude < 2 ^ magnitude_bits a.n) × (a.n ≤ length a.out.now) =
-      put_passed _ _ _ _ (sym c.put_refusal-refused.ensures ∙ c.if-refused-ne0.false) in
+    put_passed _ _ _ _ (sym c.put_refusal-refused.ensures ∙ c.if-refused-ne0.false) in
     let weight = c.sign_weight-weight.ensures in
     let n = c.args.n in
     let f = real_form _ _ known.0 in
@@ -47,14 +47,14 @@ put_together-requires c =
 pub put_whole-requires : goal.put_whole-requires
 put_whole-requires c =
     let known : let a = c.args in (no_real a.n a.m ≡ false) × (a.magnitude < 2 ^ magnitude_bits a.n) × (a.n ≤ length a.out.now) =
-      put_passed _ _ _ _ (sym c.put_refusal-refused.ensures ∙ c.if-refused-ne0.false) in
+    put_passed _ _ _ _ (sym c.put_refusal-refused.ensures ∙ c.if-refused-ne0.false) in
     let k = known in let f = real_form _ _ k.0 in search rules
 
 pub returns : goal.returns
 unfolding real_bytes
 returns c =
     let known : let a = c.args in (no_real a.n a.m ≡ false) × (a.magnitude < 2 ^ magnitude_bits a.n) × (a.n ≤ length a.out.now) =
-      put_passed _ _ _ _ (sym c.put_refusal-refused.ensures ∙ c.if-refused-ne0.false) in
+    put_passed _ _ _ _ (sym c.put_refusal-refused.ensures ∙ c.if-refused-ne0.false) in
     let args = c.args in
     let s = args.negative in
     let n = args.n in

@@ -20,7 +20,7 @@ returns-then-form-ne0 c = refused _ _ _ c.form_refusal-form.ensures c.if-form-ne
 pub sign_weight-weight-requires : goal.sign_weight-weight-requires
 sign_weight-weight-requires c =
     let in_range : no_real c.args.n c.args.m ≡ false =
-      formed _ _ (sym c.form_refusal-form.ensures ∙ c.if-form-ne0.false) in
+    formed _ _ (sym c.form_refusal-form.ensures ∙ c.if-form-ne0.false) in
     let f = real_form _ _ in_range in search rules
 
 pub overflow_sub-weight : goal.overflow_sub-weight

@@ -16,12 +16,12 @@ pub returns-then-m-gt15 : goal.returns-then-m-gt15
 unfolding form_refusal no_real when
 returns-then-m-gt15 c =
     let one : (not (eqb c.args.n 4) && not (eqb c.args.n 6)) ≡ false =
-      ⊎_elim (λ w. rw (ne_eqb _ _ w.0, eq-eqb _ _ w.1) refl) (λ w. rw (eq-eqb _ _ w) refl) c.else-n-ne4.either in
+    ⊎_elim (λ w. rw (ne_eqb _ _ w.0, eq-eqb _ _ w.1) refl) (λ w. rw (eq-eqb _ _ w) refl) c.else-n-ne4.either in
     rw (one, lt-ltb _ _ c.if-m-gt15.true) refl
 
 pub returns : goal.returns
 unfolding form_refusal no_real when
 returns c =
     let one : (not (eqb c.args.n 4) && not (eqb c.args.n 6)) ≡ false =
-      ⊎_elim (λ w. rw (ne_eqb _ _ w.0, eq-eqb _ _ w.1) refl) (λ w. rw (eq-eqb _ _ w) refl) c.else-n-ne4.either in
+    ⊎_elim (λ w. rw (ne_eqb _ _ w.0, eq-eqb _ _ w.1) refl) (λ w. rw (eq-eqb _ _ w) refl) c.else-n-ne4.either in
     rw (one, le-ltb _ _ c.if-m-gt15.false) refl

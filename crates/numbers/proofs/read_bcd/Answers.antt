@@ -18,13 +18,13 @@ returns-then-refused-ne0 c = says_of decimals _ _ _ (given_some Refused _ _ _ c.
 pub overflow_mul-n : goal.overflow_mul-n
 overflow_mul-n c =
     let known : let args = c.args in Sized 6 args.n (length args.bytes.now) =
-      sized 6 _ _ (sym c.size_refusal-refused.ensures ∙ c.if-refused-ne0.false) in
+    sized 6 _ _ (sym c.size_refusal-refused.ensures ∙ c.if-refused-ne0.false) in
     let k = known in search rules
 
 pub decimal-requires : goal.decimal-requires
 decimal-requires c =
     let known : let args = c.args in Sized 6 args.n (length args.bytes.now) =
-      sized 6 _ _ (sym c.size_refusal-refused.ensures ∙ c.if-refused-ne0.false) in
+    sized 6 _ _ (sym c.size_refusal-refused.ensures ∙ c.if-refused-ne0.false) in
     let k = known in search rules
 
 pub returns : goal.returns

@@ -19,13 +19,13 @@ returns-then-refused-ne0 c = says_some integers _ _ _ c.size_refusal-refused.ens
 pub whole-requires : goal.whole-requires
 whole-requires c =
     let known : let args = c.args in Sized 4 args.n (length args.bytes.now) =
-      sized 4 _ _ (sym c.size_refusal-refused.ensures ∙ c.if-refused-ne0.false) in
+    sized 4 _ _ (sym c.size_refusal-refused.ensures ∙ c.if-refused-ne0.false) in
     let k = known in search rules
 
 pub overflow_cast-result : goal.overflow_cast-result
 overflow_cast-result c =
     let known : let args = c.args in Sized 4 args.n (length args.bytes.now) =
-      sized 4 _ _ (sym c.size_refusal-refused.ensures ∙ c.if-refused-ne0.false) in
+    sized 4 _ _ (sym c.size_refusal-refused.ensures ∙ c.if-refused-ne0.false) in
     let k = known in
     let most : 256 ^ c.args.n ≤ 256 ^ 4 = pow-le-pow_right (lit< tt) k.high in
     omega (arith, most)

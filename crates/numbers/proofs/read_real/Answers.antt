@@ -19,34 +19,34 @@ pub returns-then-refused-ne0 : goal.returns-then-refused-ne0
 unfolding read_real_refusal
 returns-then-refused-ne0 c =
     let tested : let a = c.args in c.first-refused.result ≡ read_real_refusal a.n a.m (length a.bytes.now) =
-      simp (c.first-refused.ensures, c.short.ensures, c.form_refusal.ensures) refl in
+    simp (c.first-refused.ensures, c.short.ensures, c.form_refusal.ensures) refl in
     says_some reals _ _ _ tested c.if-refused-ne0.true
 
 pub whole-v-requires : goal.whole-v-requires
 unfolding read_real_refusal
 whole-v-requires c =
     let tested : let a = c.args in c.first-refused.result ≡ read_real_refusal a.n a.m (length a.bytes.now) =
-      simp (c.first-refused.ensures, c.short.ensures, c.form_refusal.ensures) refl in
+    simp (c.first-refused.ensures, c.short.ensures, c.form_refusal.ensures) refl in
     let known : let a = c.args in (no_real a.n a.m ≡ false) × (a.n ≤ length a.bytes.now) =
-      real_passed _ _ _ (sym tested ∙ c.if-refused-ne0.false) in
+    real_passed _ _ _ (sym tested ∙ c.if-refused-ne0.false) in
     let k = known in let f = real_form _ _ k.0 in search rules
 
 pub sign_weight-weight-requires : goal.sign_weight-weight-requires
 unfolding read_real_refusal
 sign_weight-weight-requires c =
     let tested : let a = c.args in c.first-refused.result ≡ read_real_refusal a.n a.m (length a.bytes.now) =
-      simp (c.first-refused.ensures, c.short.ensures, c.form_refusal.ensures) refl in
+    simp (c.first-refused.ensures, c.short.ensures, c.form_refusal.ensures) refl in
     let known : let a = c.args in (no_real a.n a.m ≡ false) × (a.n ≤ length a.bytes.now) =
-      real_passed _ _ _ (sym tested ∙ c.if-refused-ne0.false) in
+    real_passed _ _ _ (sym tested ∙ c.if-refused-ne0.false) in
     let f = real_form _ _ known.0 in search rules
 
 pub taken_apart-requires : goal.taken_apart-requires
 unfolding read_real_refusal
 taken_apart-requires c =
     let tested : let a = c.args in c.first-refused.result ≡ read_real_refusal a.n a.m (length a.bytes.now) =
-      simp (c.first-refused.ensures, c.short.ensures, c.form_refusal.ensures) refl in
+    simp (c.first-refused.ensures, c.short.ensures, c.form_refusal.ensures) refl in
     let known : let a = c.args in (no_real a.n a.m ≡ false) × (a.n ≤ length a.bytes.now) =
-      real_passed _ _ _ (sym tested ∙ c.if-refused-ne0.false) in
+    real_passed _ _ _ (sym tested ∙ c.if-refused-ne0.false) in
     let n = c.args.n in
     let f = real_form _ _ known.0 in
     omega (arith, weight_twice n (omega arith))
@@ -55,9 +55,9 @@ pub returns : goal.returns
 unfolding read_real_refusal
 returns c =
     let tested : let a = c.args in c.first-refused.result ≡ read_real_refusal a.n a.m (length a.bytes.now) =
-      simp (c.first-refused.ensures, c.short.ensures, c.form_refusal.ensures) refl in
+    simp (c.first-refused.ensures, c.short.ensures, c.form_refusal.ensures) refl in
     let known : let a = c.args in (no_real a.n a.m ≡ false) × (a.n ≤ length a.bytes.now) =
-      real_passed _ _ _ (sym tested ∙ c.if-refused-ne0.false) in
+    real_passed _ _ _ (sym tested ∙ c.if-refused-ne0.false) in
     let n = c.args.n in
     let bytes = c.args.bytes.now in
     let k = known in

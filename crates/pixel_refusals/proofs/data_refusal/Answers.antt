@@ -18,19 +18,19 @@ returns-then-refused-ne0 c = refused _ _ _ c.line_refusal-refused.ensures c.if-r
 pub layout_of-l-requires : goal.layout_of-l-requires
 layout_of-l-requires c =
     let admit : Admitted 1 12 c.args.sector (length c.args.line.now) =
-      admitted _ _ _ _ _ (sym c.line_refusal-refused.ensures ∙ c.if-refused-ne0.false) in
+    admitted _ _ _ _ _ (sym c.line_refusal-refused.ensures ∙ c.if-refused-ne0.false) in
     let h = admit in (h.low, h.high)
 
 pub data_bytes-requires : goal.data_bytes-requires
 data_bytes-requires c =
     let admit : Admitted 1 12 c.args.sector (length c.args.line.now) =
-      admitted _ _ _ _ _ (sym c.line_refusal-refused.ensures ∙ c.if-refused-ne0.false) in
+    admitted _ _ _ _ _ (sym c.line_refusal-refused.ensures ∙ c.if-refused-ne0.false) in
     let h = admit in subst Sound (sym c.layout_of-l.ensures) (sound _ h.low h.high)
 
 pub values_refusal-requires : goal.values_refusal-requires
 values_refusal-requires c =
     let admit : Admitted 1 12 c.args.sector (length c.args.line.now) =
-      admitted _ _ _ _ _ (sym c.line_refusal-refused.ensures ∙ c.if-refused-ne0.false) in
+    admitted _ _ _ _ _ (sym c.line_refusal-refused.ensures ∙ c.if-refused-ne0.false) in
     let h = admit in (subst Sound (sym c.layout_of-l.ensures) (sound _ h.low h.high), h.long)
 
 pub returns : goal.returns

@@ -19,13 +19,13 @@ returns-then-refused-ne0 c = refused _ _ _ c.line_refusal-refused.ensures c.if-r
 pub layout_of-l-requires : goal.layout_of-l-requires
 layout_of-l-requires c =
     let admit : Admitted c.args.lo c.args.hi c.args.sector (length c.args.line.now) =
-      admitted _ _ _ _ _ (sym c.line_refusal-refused.ensures ∙ c.if-refused-ne0.false) in
+    admitted _ _ _ _ _ (sym c.line_refusal-refused.ensures ∙ c.if-refused-ne0.false) in
     let h = admit in (le_trans c.requires.0 h.low, le_trans h.high c.requires.1)
 
 pub values_refusal-requires : goal.values_refusal-requires
 values_refusal-requires c =
     let admit : Admitted c.args.lo c.args.hi c.args.sector (length c.args.line.now) =
-      admitted _ _ _ _ _ (sym c.line_refusal-refused.ensures ∙ c.if-refused-ne0.false) in
+    admitted _ _ _ _ _ (sym c.line_refusal-refused.ensures ∙ c.if-refused-ne0.false) in
     let h = admit in (subst Sound (sym c.layout_of-l.ensures) (sound _ (le_trans c.requires.0 h.low) (le_trans h.high c.requires.1)), h.long)
 
 pub returns : goal.returns

@@ -1,7 +1,6 @@
 -- `rack_report::hansobrik_together` meets its contract. Assumes nothing.
 use mathlib.Core.Path.{sym, ap, ap₂, ◌∙◌}
 use mathlib.Core.Bool.{true, false}
-use borrow.Author.Tests.{not-true, not-false}
 use Rattle.report_record.proofs.Rows.{and_both, and_fails, and_fails_left}
 use Rattle.report.specs.Calls.{together_answer}
 use Rattle.rack_report.specs.PassReport.{marked, answer_given, together_of}

@@ -1,6 +1,5 @@
 -- `rack_report::hansobrik_with_line` meets its contract. Assumes nothing.
 use mathlib.Core.Path.{sym, ap, ◌∙◌}
-use borrow.Author.Tests.{not-true, not-false}
 use Rattle.report_record.specs.declared.Report.{Report}
 use Rattle.report.specs.Calls.{with_line_answer}
 use Rattle.rack_report.specs.PassReport.{marked, refused_report, answer_given, with_line_of}

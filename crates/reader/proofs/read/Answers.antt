@@ -19,13 +19,13 @@ returns-then-piece-eq0 c =
 pub to_line-requires : goal.to_line-requires
 to_line-requires c =
     let known : Admitted c.args.setting c.args.state (length c.args.line.now) =
-      admitted _ _ _ _ (sym c.read_refusal-refused.ensures ∙ c.if-refused-ne0.false) in
+    admitted _ _ _ _ (sym c.read_refusal-refused.ensures ∙ c.if-refused-ne0.false) in
     let k = known in fill_in (facts _ k.possible) c.if-state.true k.long
 
 pub returns-then-state : goal.returns-then-state
 returns-then-state c =
     let known : Admitted c.args.setting c.args.state (length c.args.line.now) =
-      admitted _ _ _ _ (sym c.read_refusal-refused.ensures ∙ c.if-refused-ne0.false) in
+    admitted _ _ _ _ (sym c.read_refusal-refused.ensures ∙ c.if-refused-ne0.false) in
     let args = c.args in
     read-call args.format args.setting args.state args.piece.now args.line.now _ c.read_refusal-refused.ensures c.if-refused-ne0.false c.if-piece-eq0.false
     (call_as (c.to_line.ensures.at args.setting)
@@ -34,13 +34,13 @@ returns-then-state c =
 pub seek-requires : goal.seek-requires
 seek-requires c =
     let known : Admitted c.args.setting c.args.state (length c.args.line.now) =
-      admitted _ _ _ _ (sym c.read_refusal-refused.ensures ∙ c.if-refused-ne0.false) in
+    admitted _ _ _ _ (sym c.read_refusal-refused.ensures ∙ c.if-refused-ne0.false) in
     let f = facts _ known.possible in (f.count, f.remembered, omega (arith, f.seven))
 
 pub to_line-requires-in-Found : goal.to_line-requires-in-Found
 to_line-requires-in-Found c =
     let known : Admitted c.args.setting c.args.state (length c.args.line.now) =
-      admitted _ _ _ _ (sym c.read_refusal-refused.ensures ∙ c.if-refused-ne0.false) in
+    admitted _ _ _ _ (sym c.read_refusal-refused.ensures ∙ c.if-refused-ne0.false) in
     fill_found c.seek.ensures c.in-Found.is (omega arith) (omega arith) known.long
 
 pub returns-in-Nothing : goal.returns-in-Nothing

@@ -1,11 +1,10 @@
 -- `reader_record::possible` meets its contract. Assumes nothing.
-use mathlib.Core.Bool.{true, false, ◌&&◌}
+use mathlib.Core.Bool.{true, false}
 use mathlib.Core.Path.{◌≡◌, sym, ap, ◌∙◌}
 use Prim.Native.Nat.{ℕ, ◌^◌}
 use native.Mathlib.Omega.{arith}
 use lib.Dec.{ltb}
-use Rattle.reader_record.specs.Records.{counts_of, possible_of}
-use Rattle.reader_record.specs.declared.State.{State}
+use Rattle.reader_record.specs.Records.{counts_of}
 use Rattle.reader_record.proofs.Checked.{no_place, no-count, no_register, no-unread, fields-left, counts-seven}
 use Rattle.reader_record.proofs.possible.Goals as goal
 

@@ -22,14 +22,14 @@ returns-then-refused-ne0 c = reported_refused _ _ _ _ c.with_line_refusal-refuse
 pub line_report-one-requires : goal.line_report-one-requires
 line_report-one-requires c =
     let knows : LineServed c.args.format c.args.report (length c.args.line.now) =
-      line_served _ _ _ (sym c.with_line_refusal-refused.ensures ∙ c.if-refused-ne0.false) in
+    line_served _ _ _ (sym c.with_line_refusal-refused.ensures ∙ c.if-refused-ne0.false) in
     knows.long
 
 pub add-both-requires : goal.add-both-requires
 unfolding Plain
 add-both-requires c =
     let knows : LineServed c.args.format c.args.report (length c.args.line.now) =
-      line_served _ _ _ (sym c.with_line_refusal-refused.ensures ∙ c.if-refused-ne0.false) in
+    line_served _ _ _ (sym c.with_line_refusal-refused.ensures ∙ c.if-refused-ne0.false) in
     let a = c.args in
     let b = bits_of a.line.now in
     (knows.one, subst (λ (x : Report). possible_report x ≡ true) (sym c.line_report-one.ensures) (report-passes _ (b ∷ []) (bits_below a.line.now, tt) (omega arith)))

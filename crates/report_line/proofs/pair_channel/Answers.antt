@@ -26,21 +26,21 @@ returns-then-lower-ne1 c =
 pub overflow_add-u : goal.overflow_add-u
 overflow_add-u c =
     let high : Row 8 c.layout_of-u.result =
-      let pre = c.requires in subst (Row 8) (sym c.layout_of-u.ensures) (upper_row _ pre.0 pre.1) in
+    let pre = c.requires in subst (Row 8) (sym c.layout_of-u.ensures) (upper_row _ pre.0 pre.1) in
     let r = high in omega (arith, row_places 8 _ r)
 
 pub overflow_add-l : goal.overflow_add-l
 overflow_add-l c =
     let low : Row 2 c.layout_of-l.result =
-      let pre = c.requires in subst (Row 2) (sym c.layout_of-l.ensures) (lower_row _ pre.0 pre.1) in
+    let pre = c.requires in subst (Row 2) (sym c.layout_of-l.ensures) (lower_row _ pre.0 pre.1) in
     let r = low in omega (arith, row_places 2 _ r)
 
 pub pair_run-requires : goal.pair_run-requires
 pair_run-requires c =
     let high : Row 8 c.layout_of-u.result =
-      let pre = c.requires in subst (Row 8) (sym c.layout_of-u.ensures) (upper_row _ pre.0 pre.1) in
+    let pre = c.requires in subst (Row 8) (sym c.layout_of-u.ensures) (upper_row _ pre.0 pre.1) in
     let low : Row 2 c.layout_of-l.result =
-      let pre = c.requires in subst (Row 2) (sym c.layout_of-l.ensures) (lower_row _ pre.0 pre.1) in
+    let pre = c.requires in subst (Row 2) (sym c.layout_of-l.ensures) (lower_row _ pre.0 pre.1) in
     let u = high in
     let l = low in
     let long = c.requires.2 in
@@ -49,9 +49,9 @@ pair_run-requires c =
 pub returns : goal.returns
 returns c =
     let high : Row 8 c.layout_of-u.result =
-      let pre = c.requires in subst (Row 8) (sym c.layout_of-u.ensures) (upper_row _ pre.0 pre.1) in
+    let pre = c.requires in subst (Row 8) (sym c.layout_of-u.ensures) (upper_row _ pre.0 pre.1) in
     let low : Row 2 c.layout_of-l.result =
-      let pre = c.requires in subst (Row 2) (sym c.layout_of-l.ensures) (lower_row _ pre.0 pre.1) in
+    let pre = c.requires in subst (Row 2) (sym c.layout_of-l.ensures) (lower_row _ pre.0 pre.1) in
     let s = c.args.line.now in
     let u = high in
     let l = low in

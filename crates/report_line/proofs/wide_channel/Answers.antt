@@ -15,13 +15,13 @@ returns-then-last-ne1 c = c.no_pixels.ensures ∙ given_none _ _ (ne_eqb _ _ c.i
 pub overflow_add-l : goal.overflow_add-l
 overflow_add-l c =
     let knows : Row 10 c.layout_of-l.result =
-      subst (Row 10) (sym c.layout_of-l.ensures) last_row in
+    subst (Row 10) (sym c.layout_of-l.ensures) last_row in
     let r = knows in omega (arith, row_places 10 _ r)
 
 pub wide_run-requires : goal.wide_run-requires
 wide_run-requires c =
     let knows : Row 10 c.layout_of-l.result =
-      subst (Row 10) (sym c.layout_of-l.ensures) last_row in
+    subst (Row 10) (sym c.layout_of-l.ensures) last_row in
     let r = knows in
     let long = c.requires in
     (omega (arith, r.many, row_inside 10 _ _ r long), omega (arith, r.many, row_places 10 _ r), omega (arith, r.many), omega (arith, r.many))
@@ -29,7 +29,7 @@ wide_run-requires c =
 pub returns : goal.returns
 returns c =
     let knows : Row 10 c.layout_of-l.result =
-      subst (Row 10) (sym c.layout_of-l.ensures) last_row in
+    subst (Row 10) (sym c.layout_of-l.ensures) last_row in
     c.wide_run.ensures
     ∙ ap channel_of (row_pixels 10 c.layout_of-l.result c.args.line.now knows c.requires _ refl ∙ ap (λ (l : Layout). pixels_of l (bits_of c.args.line.now)) c.layout_of-l.ensures)
     ∙ given_some _ _ (eq-eqb _ _ c.if-last-ne1.false)

@@ -1,6 +1,5 @@
 -- `report_whole::record_refusal` meets its contract. Assumes nothing.
 use mathlib.Core.Path.{sym, ◌∙◌}
-use borrow.Author.Tests.{not-true, not-false}
 use Rattle.report_record.proofs.Possible.{record-over, record-sectors, record-channels, record-passed}
 use Rattle.report_whole.proofs.record_refusal.Goals as goal
 

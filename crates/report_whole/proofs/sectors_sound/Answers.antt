@@ -2,7 +2,6 @@
 use mathlib.Core.Path.{sym, ◌∙◌}
 use mathlib.Core.Bool.{true}
 use native.Mathlib.Omega.{arith}
-use borrow.Author.Tests.{not-true, not-false}
 use Rattle.report_record.specs.Possible.{sound_tally, sectors_sound}
 use Rattle.report_record.proofs.Rows.{all_none, all_turn, all_done, all_fails}
 use Rattle.report_whole.proofs.sectors_sound.Goals as goal

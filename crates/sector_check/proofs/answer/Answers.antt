@@ -10,7 +10,7 @@ pub returns-then-remainder-ne0 : goal.returns-then-remainder-ne0
 unfolding covered_of part
 returns-then-remainder-ne0 c =
     let read : let a = c.args in c.remainder.result ≡ remainder_of a.start (covered_of a.l (bits_of a.line.now)) =
-      c.remainder.ensures in
+    c.remainder.ensures in
     let a = c.args in
     answer-five a.start a.l (bits_of a.line.now) (λ z. c.if-remainder-ne0.true (read ∙ z))
 
@@ -18,7 +18,7 @@ pub returns-then-field-l : goal.returns-then-field-l
 unfolding covered_of part
 returns-then-field-l c =
     let read : let a = c.args in c.remainder.result ≡ remainder_of a.start (covered_of a.l (bits_of a.line.now)) =
-      c.remainder.ensures in
+    c.remainder.ensures in
     let a = c.args in
     answer-six a.start a.l (bits_of a.line.now)
     (sym read ∙ c.if-remainder-ne0.false)
@@ -28,7 +28,7 @@ pub returns : goal.returns
 unfolding covered_of part
 returns c =
     let read : let a = c.args in c.remainder.result ≡ remainder_of a.start (covered_of a.l (bits_of a.line.now)) =
-      c.remainder.ensures in
+    c.remainder.ensures in
     let a = c.args in
     answer-none a.start a.l (bits_of a.line.now)
     (sym read ∙ c.if-remainder-ne0.false)

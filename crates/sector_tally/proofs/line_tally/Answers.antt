@@ -13,13 +13,13 @@ use Rattle.sector_tally.proofs.line_tally.Goals as goal
 pub answer-said-requires : goal.answer-said-requires
 answer-said-requires c =
     let knows : Sound c.layout_of-l.result =
-      subst Sound (sym c.layout_of-l.ensures) (sound _ c.requires.0 c.requires.1) in
+    subst Sound (sym c.layout_of-l.ensures) (sound _ c.requires.0 c.requires.1) in
     (knows, c.requires.2)
 
 pub count_filler-requires : goal.count_filler-requires
 count_filler-requires c =
     let knows : Sound c.layout_of-l.result =
-      subst Sound (sym c.layout_of-l.ensures) (sound _ c.requires.0 c.requires.1) in
+    subst Sound (sym c.layout_of-l.ensures) (sound _ c.requires.0 c.requires.1) in
     (knows, c.requires.2)
 
 pub tally-requires : goal.tally-requires

@@ -15,9 +15,9 @@ use Rattle.segments.proofs.add_segment.Goals as goal
 pub place-requires : goal.place-requires
 place-requires c =
     let is_carried : let a = c.args in carried_refusal a.format a.assembly.marks a.line.now a.number (length a.block.now) ≡ 0 =
-      sym c.carried.ensures.0 ∙ ap sub_number c.in-Is.is in
+    sym c.carried.ensures.0 ∙ ap sub_number c.in-Is.is in
     let is-segment : let a = c.args in c.in-Is.segment ≡ segment_in a.line.now =
-      ap sub_segment (sym c.in-Is.is) ∙ ap (λ (v : ℕ × ℕ). v.0) (c.carried.ensures.1 ∙ kept_none _ _ _ is_carried) in
+    ap sub_segment (sym c.in-Is.is) ∙ ap (λ (v : ℕ × ℕ). v.0) (c.carried.ensures.1 ∙ kept_none _ _ _ is_carried) in
     let a = c.args in
     let h = carries a.format a.assembly.marks a.line.now a.number (length a.block.now) is_carried in
     record { row = sound a.number h.low h.high; small = subst (λ (s : ℕ). s ≤ 24) (sym is-segment) h.segment; long = h.long; room = h.room }
@@ -25,9 +25,9 @@ place-requires c =
 pub returns-in-Is : goal.returns-in-Is
 returns-in-Is c =
     let is_carried : let a = c.args in carried_refusal a.format a.assembly.marks a.line.now a.number (length a.block.now) ≡ 0 =
-      sym c.carried.ensures.0 ∙ ap sub_number c.in-Is.is in
+    sym c.carried.ensures.0 ∙ ap sub_number c.in-Is.is in
     let is-segment : let a = c.args in c.in-Is.segment ≡ segment_in a.line.now =
-      ap sub_segment (sym c.in-Is.is) ∙ ap (λ (v : ℕ × ℕ). v.0) (c.carried.ensures.1 ∙ kept_none _ _ _ is_carried) in
+    ap sub_segment (sym c.in-Is.is) ∙ ap (λ (v : ℕ × ℕ). v.0) (c.carried.ensures.1 ∙ kept_none _ _ _ is_carried) in
     let a = c.args in
     added-told a.format a.assembly a.line.now a.number a.block.now is_carried _ is-segment _ _ c.place.ensures
 
@@ -35,7 +35,7 @@ pub returns-in-Refused : goal.returns-in-Refused
 unfolding add_segment_refusal add_segment_left
 returns-in-Refused c =
     let is-refused : let a = c.args in c.in-Refused.k ≡ carried_refusal a.format a.assembly.marks a.line.now a.number (length a.block.now) =
-      ap sub_number (sym c.in-Refused.is) ∙ c.carried.ensures.0 in
+    ap sub_number (sym c.in-Refused.is) ∙ c.carried.ensures.0 in
     let a = c.args in
     let some : c.in-Refused.k ≡ 0 → ⊥ = λ z. c.carried.ensures.2 (c.in-Refused.is ∙ ap Refused z) in
     let e = refused _ _ _ is-refused some in

@@ -16,9 +16,9 @@ place_refusal-refused-requires c = c.requires
 pub returns-then-refused-ne0 : goal.returns-then-refused-ne0
 returns-then-refused-ne0 c =
     let refusal : let a = c.args in c.place_refusal-refused.result ≡ place_refusal a.number a.assembly (revisions_in a.line.now) a.line.now a.segment a.block.now =
-      let a = c.args in
-      c.place_refusal-refused.ensures
-      ∙ ap (λ (r : Revisions). place_refusal a.number a.assembly r a.line.now a.segment a.block.now) c.revisions_in-carried.ensures in
+    let a = c.args in
+    c.place_refusal-refused.ensures
+    ∙ ap (λ (r : Revisions). place_refusal a.number a.assembly r a.line.now a.segment a.block.now) c.revisions_in-carried.ensures in
     placed-refused _ _ _ _ _ _ refusal c.if-refused-ne0.true
 
 pub is_marked-requires : goal.is_marked-requires
@@ -27,13 +27,13 @@ is_marked-requires c = c.requires.small
 pub returns-then-is_marked : goal.returns-then-is_marked
 returns-then-is_marked c =
     let refusal : let a = c.args in c.place_refusal-refused.result ≡ place_refusal a.number a.assembly (revisions_in a.line.now) a.line.now a.segment a.block.now =
-      let a = c.args in
-      c.place_refusal-refused.ensures
-      ∙ ap (λ (r : Revisions). place_refusal a.number a.assembly r a.line.now a.segment a.block.now) c.revisions_in-carried.ensures in
+    let a = c.args in
+    c.place_refusal-refused.ensures
+    ∙ ap (λ (r : Revisions). place_refusal a.number a.assembly r a.line.now a.segment a.block.now) c.revisions_in-carried.ensures in
     let from-now-on : let a = c.args in c.remembered-revisions.result ≡ remembered a.assembly (revisions_in a.line.now) =
-      let a = c.args in
-      let told : c.remembered-revisions.result ≡ remembered a.assembly c.revisions_in-carried.result = c.remembered-revisions.ensures in
-      told ∙ ap (remembered a.assembly) c.revisions_in-carried.ensures in
+    let a = c.args in
+    let told : c.remembered-revisions.result ≡ remembered a.assembly c.revisions_in-carried.result = c.remembered-revisions.ensures in
+    told ∙ ap (remembered a.assembly) c.revisions_in-carried.ensures in
     placed-again _ _ _ _ _ _ refusal _ c.if-refused-ne0.false (sym c.is_marked.ensures ∙ c.if-is_marked.true) from-now-on
 
 pub store-requires : goal.store-requires
@@ -47,11 +47,11 @@ with_mark-requires c = c.requires.small
 pub returns : goal.returns
 returns c =
     let refusal : let a = c.args in c.place_refusal-refused.result ≡ place_refusal a.number a.assembly (revisions_in a.line.now) a.line.now a.segment a.block.now =
-      let a = c.args in
-      c.place_refusal-refused.ensures
-      ∙ ap (λ (r : Revisions). place_refusal a.number a.assembly r a.line.now a.segment a.block.now) c.revisions_in-carried.ensures in
+    let a = c.args in
+    c.place_refusal-refused.ensures
+    ∙ ap (λ (r : Revisions). place_refusal a.number a.assembly r a.line.now a.segment a.block.now) c.revisions_in-carried.ensures in
     let from-now-on : let a = c.args in c.remembered-revisions.result ≡ remembered a.assembly (revisions_in a.line.now) =
-      let a = c.args in
-      let told : c.remembered-revisions.result ≡ remembered a.assembly c.revisions_in-carried.result = c.remembered-revisions.ensures in
-      told ∙ ap (remembered a.assembly) c.revisions_in-carried.ensures in
+    let a = c.args in
+    let told : c.remembered-revisions.result ≡ remembered a.assembly c.revisions_in-carried.result = c.remembered-revisions.ensures in
+    told ∙ ap (remembered a.assembly) c.revisions_in-carried.ensures in
     placed-new _ _ _ _ _ _ refusal _ _ _ _ c.if-refused-ne0.false (sym c.is_marked.ensures ∙ c.if-is_marked.false) from-now-on c.with_mark.ensures c.store.ensures c.block_of.ensures

@@ -1,7 +1,6 @@
 -- `tail_search::pass_over` meets its contract. Assumes nothing.
 use mathlib.Core.Path.{◌≡◌, refl}
 use native.Mathlib.Omega.{arith}
-use borrow.Author.Tests.{not-false}
 use Rattle.tail_search.proofs.Searching.{passed_none, passed_byte}
 use Rattle.tail_search.proofs.pass_over.Goals as goal
 

@@ -15,13 +15,13 @@ returns-then-refused-ne0 c = refused _ _ _ c.asked-refused.ensures c.if-refused-
 pub layout_of-requires : goal.layout_of-requires
 layout_of-requires c =
     let serves : Inside 1 12 c.args.sector =
-      served _ _ _ _ (sym c.asked-refused.ensures ∙ c.if-refused-ne0.false) in
+    served _ _ _ _ (sym c.asked-refused.ensures ∙ c.if-refused-ne0.false) in
     let h = serves in (h.low, h.high)
 
 pub data_bytes-requires : goal.data_bytes-requires
 data_bytes-requires c =
     let serves : Inside 1 12 c.args.sector =
-      served _ _ _ _ (sym c.asked-refused.ensures ∙ c.if-refused-ne0.false) in
+    served _ _ _ _ (sym c.asked-refused.ensures ∙ c.if-refused-ne0.false) in
     let h = serves in subst Sound (sym c.layout_of.ensures) (sound _ h.low h.high)
 
 pub returns : goal.returns

@@ -19,13 +19,13 @@ returns-then-refused-ne0 c = refused _ _ _ c.asked-refused.ensures c.if-refused-
 pub layout_of-l-requires : goal.layout_of-l-requires
 layout_of-l-requires c =
     let serves : Inside 2 11 c.args.sector =
-      served _ _ _ _ (sym c.asked-refused.ensures ∙ c.if-refused-ne0.false) in
+    served _ _ _ _ (sym c.asked-refused.ensures ∙ c.if-refused-ne0.false) in
     let h = serves in (omega (arith, h.low), omega (arith, h.high))
 
 pub limit_of-requires : goal.limit_of-requires
 limit_of-requires c =
     let serves : Inside 2 11 c.args.sector =
-      served _ _ _ _ (sym c.asked-refused.ensures ∙ c.if-refused-ne0.false) in
+    served _ _ _ _ (sym c.asked-refused.ensures ∙ c.if-refused-ne0.false) in
     let h = serves in
     let n = c.args.sector in
     subst (λ (l : Layout). l.width ≤ 16) (sym c.layout_of-l.ensures) (sound n (omega (arith, h.low)) (omega (arith, h.high))).narrow

@@ -13,18 +13,18 @@ pub overflow_cast-result : goal.overflow_cast-result
 unfolding bcd_in
 overflow_cast-result c =
     let is_read : let args = c.args in bcd_in args.bytes.now args.at 2 ≡ Is c.in-Is.v =
-      sym c.bcd_in.ensures ∙ c.in-Is.is in
+    sym c.bcd_in.ensures ∙ c.in-Is.is in
     let small : c.in-Is.v < 10000 =
-      bcd_lt 2 _ _ is_read in
+    bcd_lt 2 _ _ is_read in
     let h = small in search rules
 
 pub returns-in-Is : goal.returns-in-Is
 unfolding bcd_at bcd_in
 returns-in-Is c =
     let is_read : let args = c.args in bcd_in args.bytes.now args.at 2 ≡ Is c.in-Is.v =
-      sym c.bcd_in.ensures ∙ c.in-Is.is in
+    sym c.bcd_in.ensures ∙ c.in-Is.is in
     let small : c.in-Is.v < 10000 =
-      bcd_lt 2 _ _ is_read in
+    bcd_lt 2 _ _ is_read in
     (ap bcd_value (sym is_read), small)
 
 pub returns-in-Refused : goal.returns-in-Refused

@@ -30,35 +30,35 @@ pub overflow_add-channel : goal.overflow_add-channel
 unfolding joined_answer
 overflow_add-channel c =
     let knows : let a = c.args in Readable 1 3 a.channel (length a.line.now) (check_start a.format) (upper_of a.channel) (bits_of a.line.now) (length a.out.now) (upper_of a.channel).count =
-      readable_more c.args.format 1 3 _ _ _ _ _ _ _ _ (sym c.joined_refusal-refused.ensures ∙ c.if-refused-ne0.false) in
+    readable_more c.args.format 1 3 _ _ _ _ _ _ _ _ (sym c.joined_refusal-refused.ensures ∙ c.if-refused-ne0.false) in
     let h = knows in search rules
 
 pub layout_of-requires : goal.layout_of-requires
 unfolding joined_answer
 layout_of-requires c =
     let knows : let a = c.args in Readable 1 3 a.channel (length a.line.now) (check_start a.format) (upper_of a.channel) (bits_of a.line.now) (length a.out.now) (upper_of a.channel).count =
-      readable_more c.args.format 1 3 _ _ _ _ _ _ _ _ (sym c.joined_refusal-refused.ensures ∙ c.if-refused-ne0.false) in
+    readable_more c.args.format 1 3 _ _ _ _ _ _ _ _ (sym c.joined_refusal-refused.ensures ∙ c.if-refused-ne0.false) in
     let h = knows in (omega arith, omega (arith, h.high))
 
 pub overflow_add-channel-2 : goal.overflow_add-channel-2
 unfolding joined_answer
 overflow_add-channel-2 c =
     let knows : let a = c.args in Readable 1 3 a.channel (length a.line.now) (check_start a.format) (upper_of a.channel) (bits_of a.line.now) (length a.out.now) (upper_of a.channel).count =
-      readable_more c.args.format 1 3 _ _ _ _ _ _ _ _ (sym c.joined_refusal-refused.ensures ∙ c.if-refused-ne0.false) in
+    readable_more c.args.format 1 3 _ _ _ _ _ _ _ _ (sym c.joined_refusal-refused.ensures ∙ c.if-refused-ne0.false) in
     let h = knows in search rules
 
 pub layout_of-requires-2 : goal.layout_of-requires-2
 unfolding joined_answer
 layout_of-requires-2 c =
     let knows : let a = c.args in Readable 1 3 a.channel (length a.line.now) (check_start a.format) (upper_of a.channel) (bits_of a.line.now) (length a.out.now) (upper_of a.channel).count =
-      readable_more c.args.format 1 3 _ _ _ _ _ _ _ _ (sym c.joined_refusal-refused.ensures ∙ c.if-refused-ne0.false) in
+    readable_more c.args.format 1 3 _ _ _ _ _ _ _ _ (sym c.joined_refusal-refused.ensures ∙ c.if-refused-ne0.false) in
     let h = knows in (omega arith, omega (arith, h.high))
 
 pub join-requires : goal.join-requires
 unfolding joined_answer
 join-requires c =
     let knows : let a = c.args in Readable 1 3 a.channel (length a.line.now) (check_start a.format) (upper_of a.channel) (bits_of a.line.now) (length a.out.now) (upper_of a.channel).count =
-      readable_more c.args.format 1 3 _ _ _ _ _ _ _ _ (sym c.joined_refusal-refused.ensures ∙ c.if-refused-ne0.false) in
+    readable_more c.args.format 1 3 _ _ _ _ _ _ _ _ (sym c.joined_refusal-refused.ensures ∙ c.if-refused-ne0.false) in
     let h = knows in
     let a = c.args in
     let n = a.channel in

@@ -16,7 +16,7 @@ returns-then-refused-ne0 c = scanner-select-told _ _ _ (says_some scanner_kind _
 pub doc_byte-requires : goal.doc_byte-requires
 doc_byte-requires c =
     let long : line_bytes ≤ length c.args.line.now =
-      doc_long _ _ (sym c.doc_refusal-refused.ensures ∙ c.if-refused-ne0.false) in
+    doc_long _ _ (sym c.doc_refusal-refused.ensures ∙ c.if-refused-ne0.false) in
     let h = long in search rules
 
 pub returns : goal.returns

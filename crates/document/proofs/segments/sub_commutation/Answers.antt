@@ -20,39 +20,39 @@ returns-then-refused-ne0 c =
 pub doc_byte-segment-requires : goal.doc_byte-segment-requires
 doc_byte-segment-requires c =
     let long : line_bytes ≤ length c.args.line.now =
-      doc_long _ _ (sym c.doc_refusal-refused.ensures ∙ c.if-refused-ne0.false) in
+    doc_long _ _ (sym c.doc_refusal-refused.ensures ∙ c.if-refused-ne0.false) in
     let h = long in search rules
 
 pub doc_byte-repeat-requires : goal.doc_byte-repeat-requires
 doc_byte-repeat-requires c =
     let long : line_bytes ≤ length c.args.line.now =
-      doc_long _ _ (sym c.doc_refusal-refused.ensures ∙ c.if-refused-ne0.false) in
+    doc_long _ _ (sym c.doc_refusal-refused.ensures ∙ c.if-refused-ne0.false) in
     let h = long in search rules
 
 pub doc_byte-requires : goal.doc_byte-requires
 doc_byte-requires c =
     let long : line_bytes ≤ length c.args.line.now =
-      doc_long _ _ (sym c.doc_refusal-refused.ensures ∙ c.if-refused-ne0.false) in
+    doc_long _ _ (sym c.doc_refusal-refused.ensures ∙ c.if-refused-ne0.false) in
     let h = long in search rules
 
 pub doc_byte-requires-2 : goal.doc_byte-requires-2
 doc_byte-requires-2 c =
     let long : line_bytes ≤ length c.args.line.now =
-      doc_long _ _ (sym c.doc_refusal-refused.ensures ∙ c.if-refused-ne0.false) in
+    doc_long _ _ (sym c.doc_refusal-refused.ensures ∙ c.if-refused-ne0.false) in
     let h = long in search rules
 
 pub returns-then-wrong-ne0 : goal.returns-then-wrong-ne0
 unfolding sub_commutation_refusal
 returns-then-wrong-ne0 c =
     let tested : let a = c.args in c.segment_refusal-wrong.result ≡ sub_commutation_refusal a.format a.line.now =
-      passed _ _ _ _ c.doc_refusal-refused.ensures c.if-refused-ne0.false
-      (simp (c.segment_refusal-wrong.ensures, c.doc_byte-2.ensures, c.doc_byte.ensures, c.doc_byte-repeat.ensures, c.doc_byte-segment.ensures) refl) in
+    passed _ _ _ _ c.doc_refusal-refused.ensures c.if-refused-ne0.false
+    (simp (c.segment_refusal-wrong.ensures, c.doc_byte-2.ensures, c.doc_byte.ensures, c.doc_byte-repeat.ensures, c.doc_byte-segment.ensures) refl) in
     says_some sub_kind _ _ _ tested c.if-wrong-ne0.true
 
 pub returns : goal.returns
 unfolding sub_commutation_refusal
 returns c =
     let tested : let a = c.args in c.segment_refusal-wrong.result ≡ sub_commutation_refusal a.format a.line.now =
-      passed _ _ _ _ c.doc_refusal-refused.ensures c.if-refused-ne0.false
-      (simp (c.segment_refusal-wrong.ensures, c.doc_byte-2.ensures, c.doc_byte.ensures, c.doc_byte-repeat.ensures, c.doc_byte-segment.ensures) refl) in
+    passed _ _ _ _ c.doc_refusal-refused.ensures c.if-refused-ne0.false
+    (simp (c.segment_refusal-wrong.ensures, c.doc_byte-2.ensures, c.doc_byte.ensures, c.doc_byte-repeat.ensures, c.doc_byte-segment.ensures) refl) in
     says_none sub_kind _ _ _ _ tested c.if-wrong-ne0.false (simp (c.doc_byte-repeat.ensures, c.doc_byte-segment.ensures) refl)

@@ -12,5 +12,5 @@ pub returns : goal.returns
 unfolding lines_in
 returns c =
     let back : to_z w32 (of_z w32 c.position_of-position.result) ≡ c.position_of-position.result =
-      to_z-of_z (subst (SFits w32) (sym c.position_of-position.ensures) (position_fits _ _ (omega arith) (omega arith))) in
+    to_z-of_z (subst (SFits w32) (sym c.position_of-position.ensures) (position_fits _ _ (omega arith) (omega arith))) in
     rw (back, c.position_of-position.ensures, c.four_digits-count.ensures.0, c.four_digits-reset.ensures.0, c.four_digits-set.ensures.0) refl

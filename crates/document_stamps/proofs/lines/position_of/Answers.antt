@@ -20,16 +20,16 @@ pub overflow_sub-result : goal.overflow_sub-result
 unfolding position_of
 overflow_sub-result c =
     let read : to_z w32 c.args.count -ℤ to_z w32 c.args.set ≡ pos c.args.count -ℤ pos c.args.set =
-      ap₂ ◌-ℤ◌ (to_z_pos w32 {n = c.args.count} (omega arith)) (to_z_pos w32 {n = c.args.set} (omega arith)) in
+    ap₂ ◌-ℤ◌ (to_z_pos w32 {n = c.args.count} (omega arith)) (to_z_pos w32 {n = c.args.set} (omega arith)) in
     let fits : SFits w32 (pos c.args.count -ℤ pos c.args.set) =
-      position_fits c.args.count c.args.set (omega arith) (omega arith) in
+    position_fits c.args.count c.args.set (omega arith) (omega arith) in
     rw read fits
 
 pub returns : goal.returns
 unfolding position_of
 returns c =
     let read : to_z w32 c.args.count -ℤ to_z w32 c.args.set ≡ pos c.args.count -ℤ pos c.args.set =
-      ap₂ ◌-ℤ◌ (to_z_pos w32 {n = c.args.count} (omega arith)) (to_z_pos w32 {n = c.args.set} (omega arith)) in
+    ap₂ ◌-ℤ◌ (to_z_pos w32 {n = c.args.count} (omega arith)) (to_z_pos w32 {n = c.args.set} (omega arith)) in
     let fits : SFits w32 (pos c.args.count -ℤ pos c.args.set) =
-      position_fits c.args.count c.args.set (omega arith) (omega arith) in
+    position_fits c.args.count c.args.set (omega arith) (omega arith) in
     rw read (to_z-of_z fits)

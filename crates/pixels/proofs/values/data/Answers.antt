@@ -20,13 +20,13 @@ returns-then-refused-ne0 c = turned_away _ _ _ _ c.data_refusal-refused.ensures 
 pub layout_of-requires : goal.layout_of-requires
 layout_of-requires c =
     let none : let a = c.args in data_answer a.format a.line.now a.sector (length a.out.now) ≡ 0 =
-      sym c.data_refusal-refused.ensures ∙ c.if-refused-ne0.false in
+    sym c.data_refusal-refused.ensures ∙ c.if-refused-ne0.false in
     let h = data_readable _ _ _ _ none in (h.low, h.high)
 
 pub unpack_data-requires : goal.unpack_data-requires
 unpack_data-requires c =
     let none : let a = c.args in data_answer a.format a.line.now a.sector (length a.out.now) ≡ 0 =
-      sym c.data_refusal-refused.ensures ∙ c.if-refused-ne0.false in
+    sym c.data_refusal-refused.ensures ∙ c.if-refused-ne0.false in
     let h = data_readable _ _ _ _ none in
     ready (λ (l : Layout). bytes_of l) h c.layout_of.ensures (sound _ h.low h.high)
 

@@ -20,13 +20,13 @@ returns-then-refused-ne0 c = turned_away _ _ _ _ c.pixels_refusal-refused.ensure
 pub layout_of-requires : goal.layout_of-requires
 layout_of-requires c =
     let none : let a = c.args in pixels_answer 12 12 a.format a.line.now a.sector (length a.out.now) ≡ 0 =
-      sym c.pixels_refusal-refused.ensures ∙ c.if-refused-ne0.false in
+    sym c.pixels_refusal-refused.ensures ∙ c.if-refused-ne0.false in
     let h = pixels_readable _ _ _ _ _ _ none in (omega (arith, h.low), omega (arith, h.high))
 
 pub unpack_pixels_wide-requires : goal.unpack_pixels_wide-requires
 unpack_pixels_wide-requires c =
     let none : let a = c.args in pixels_answer 12 12 a.format a.line.now a.sector (length a.out.now) ≡ 0 =
-      sym c.pixels_refusal-refused.ensures ∙ c.if-refused-ne0.false in
+    sym c.pixels_refusal-refused.ensures ∙ c.if-refused-ne0.false in
     let h = pixels_readable _ _ _ _ _ _ none in
     let found = c.layout_of.ensures in
     ready (λ (l : Layout). l.count) h found (sound _ (omega (arith, h.low)) (omega (arith, h.high)))

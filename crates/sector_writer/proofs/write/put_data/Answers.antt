@@ -19,13 +19,13 @@ returns-then-refused-ne0 c = turned_away _ _ _ _ c.data_refusal-refused.ensures 
 pub layout_of-requires : goal.layout_of-requires
 layout_of-requires c =
     let knows : let a = c.args in Writable 1 12 a.sector (length a.line.now) (length a.bytes.now) (bytes_of (layout_of a.sector)) =
-      data_writable _ _ _ _ (sym c.data_refusal-refused.ensures ∙ c.if-refused-ne0.false) in
+    data_writable _ _ _ _ (sym c.data_refusal-refused.ensures ∙ c.if-refused-ne0.false) in
     let h = knows in (omega (arith, h.low), omega (arith, h.high))
 
 pub write_bytes-requires : goal.write_bytes-requires
 write_bytes-requires c =
     let knows : let a = c.args in Writable 1 12 a.sector (length a.line.now) (length a.bytes.now) (bytes_of (layout_of a.sector)) =
-      data_writable _ _ _ _ (sym c.data_refusal-refused.ensures ∙ c.if-refused-ne0.false) in
+    data_writable _ _ _ _ (sym c.data_refusal-refused.ensures ∙ c.if-refused-ne0.false) in
     ready _ c.layout_of.ensures (λ (l : Layout). bytes_of l) (omega arith) (omega arith) knows
 
 pub returns : goal.returns

@@ -19,13 +19,13 @@ returns-then-refused-ne0 c = refused _ _ _ c.line_refusal-refused.ensures c.if-r
 pub layout_of-requires : goal.layout_of-requires
 layout_of-requires c =
     let admit : Admitted 1 12 c.args.sector (length c.args.line.now) =
-      admitted _ _ _ _ _ (sym c.line_refusal-refused.ensures ∙ c.if-refused-ne0.false) in
+    admitted _ _ _ _ _ (sym c.line_refusal-refused.ensures ∙ c.if-refused-ne0.false) in
     let h = admit in (h.low, h.high)
 
 pub answer-requires : goal.answer-requires
 answer-requires c =
     let admit : Admitted 1 12 c.args.sector (length c.args.line.now) =
-      admitted _ _ _ _ _ (sym c.line_refusal-refused.ensures ∙ c.if-refused-ne0.false) in
+    admitted _ _ _ _ _ (sym c.line_refusal-refused.ensures ∙ c.if-refused-ne0.false) in
     let h = admit in (subst Sound (sym c.layout_of.ensures) (sound _ h.low h.high), h.long)
 
 pub returns : goal.returns

@@ -23,8 +23,8 @@ pub returns-then-refused-ne0 : goal.returns-then-refused-ne0
 unfolding visible_of
 returns-then-refused-ne0 c =
     let answers : let a = c.args in c.answer-refused.result ≡ answer_of a.start (layout_of a.sector) (bits_of a.line.now) =
-      let a = c.args in
-      c.answer-refused.ensures ∙ ap (λ (l : Layout). answer_of a.start l (bits_of a.line.now)) c.layout_of-l.ensures in
+    let a = c.args in
+    c.answer-refused.ensures ∙ ap (λ (l : Layout). answer_of a.start l (bits_of a.line.now)) c.layout_of-l.ensures in
     turned_away _ _ _ _ answers c.if-refused-ne0.true
 
 pub unpack_pixels-requires : goal.unpack_pixels-requires
@@ -38,8 +38,8 @@ pub returns : goal.returns
 unfolding visible_of
 returns c =
     let answers : let a = c.args in c.answer-refused.result ≡ answer_of a.start (layout_of a.sector) (bits_of a.line.now) =
-      let a = c.args in
-      c.answer-refused.ensures ∙ ap (λ (l : Layout). answer_of a.start l (bits_of a.line.now)) c.layout_of-l.ensures in
+    let a = c.args in
+    c.answer-refused.ensures ∙ ap (λ (l : Layout). answer_of a.start l (bits_of a.line.now)) c.layout_of-l.ensures in
     let n = c.args.sector in
     let part = c.args.part.now in
     let none : drop (layout_of n).count part ≡ [] = drop_of_length-le part {i = (layout_of n).count} (omega (arith, visible_count n c.requires.0 c.requires.1)) in
