@@ -20,7 +20,7 @@ returns c =
     let p = x.piece.now in
     let width : a + line_bytes - a ≡ line_bytes = omega arith in
     let answer : c.read.result ≡ read_answer x.format x.setting x.state p (take (a + line_bytes - a) (drop a area)) = read_is x.format x.setting x.state p (take (a + line_bytes - a) (drop a area)) _ c.read.ensures.0 in
-    let lent : c.read.new.1.1.1.1.0 ≡ read_left x.format x.setting x.state p (take (a + line_bytes - a) (drop a area)) = c.read.ensures.1 in (
+    let lent : c.read.new.line ≡ read_left x.format x.setting x.state p (take (a + line_bytes - a) (drop a area)) = c.read.ensures.1 in (
       answer ∙ ap (λ (k : ℕ). read_answer x.format x.setting x.state p (take k (drop a area))) width,
       ap (λ (y : List ℕ). take a area ++ (y ++ drop (a + line_bytes - a) (drop a area))) lent
           ∙ ap (λ (k : ℕ). take a area ++ (read_left x.format x.setting x.state p (take k (drop a area)) ++ drop k (drop a area))) width

@@ -5,4 +5,4 @@ use Rattle.number_writer.proofs.Settled.{put_real_is}
 use Rattle.rack_number.proofs.hansobrik_put_real.Goals as goal
 
 pub returns : goal.returns
-returns c = (c.put_number.ensures ∙ ap put_number (put_real_is _ _ _ _ _ c.put_real.ensures.0), c.put_real.ensures.1)
+returns c = (c.put_number.ensures ∙ ap put_number (put_real_is _ _ _ _ _ c.put_real.ensures.put_real_ok), c.put_real.ensures.out_after)
