@@ -6,4 +6,4 @@ use Rattle.rack_desk.proofs.desk_left.Goals as goal
 
 pub returns : goal.returns
 returns c = let a = c.args in
-    ap (λ (s : DeskSlot). record { count = a.was.count; last = a.t2.last; slots = set a.was.slots a.i s }) c.slot_given-given.ensures
+    ap (λ (s : DeskSlot). record { count = a.was.count; last = a.d.last; slots = set a.was.slots a.i s }) c.slot_given-given.ensures
