@@ -7,7 +7,7 @@ ghost use Rattle.std.specs.Prelude.{◌≡◌, ◌+◌, ◌*◌, ◌/◌, ◌%�
 ghost use Rattle.crc_step.specs.Remainder.{next};
 
 // Inner. One bit more: the remainder goes one place up, and where a bit goes out at the top the divisor goes off.
-fn step(rem: u16, bit: u8) -> u16
+pub fn step(rem: u16, bit: u8) -> u16
     requires { bit < 2 }
     ensures { result ≡ next rem bit }
 {

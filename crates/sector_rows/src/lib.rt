@@ -14,7 +14,7 @@ use sector_frame::frame::put_frame;
 use sector_table::layout::{Layout, data_bytes};
 
 // Inner. The data bytes of a sector: whole ones, and of the last one all but its spare low bits.
-fn put_bytes(l: Layout, line: &mut [u8], bytes: &[u8])
+pub fn put_bytes(l: Layout, line: &mut [u8], bytes: &[u8])
     requires { Sound l × (line_bytes ≤ length line.old) × (bytes_of l ≤ length bytes.now) }
     ensures { bits_of line.new ≡ take (data_at l) (bits_of line.old) ++ data_written l bytes.now ++ drop (data_at l + l.data_bits) (bits_of line.old) }
 {

@@ -13,7 +13,7 @@ use sector_table::asked::asked;
 use sector_table::layout::{data_bytes, layout_of};
 
 // Inner. The first number that does not fit a width.
-fn limit_of(width: usize) -> u32
+pub fn limit_of(width: usize) -> u32
     requires { width ≤ 16 }
     ensures { result ≡ 2 ^ width }
 {
@@ -21,7 +21,7 @@ fn limit_of(width: usize) -> u32
 }
 
 // Inner. 10 where one of the first n pixels is not below the limit, or of all where there are fewer than n; else 0.
-fn over_bytes(pixels: &[u8], n: usize, limit: u32) -> u8
+pub fn over_bytes(pixels: &[u8], n: usize, limit: u32) -> u8
     ensures { result ≡ over_of limit (take n pixels.now) }
 {
     let mut i: usize = 0;
@@ -38,7 +38,7 @@ fn over_bytes(pixels: &[u8], n: usize, limit: u32) -> u8
 }
 
 // Inner. The same of pixels of sixteen bits.
-fn over_wide(pixels: &[u16], n: usize, limit: u32) -> u8
+pub fn over_wide(pixels: &[u16], n: usize, limit: u32) -> u8
     ensures { result ≡ over_of limit (take n pixels.now) }
 {
     let mut i: usize = 0;
