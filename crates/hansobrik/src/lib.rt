@@ -7,12 +7,12 @@
 // one call must not overlap.
 #![tactic(auto)]
 
-mod blocks;
-mod desk;
-mod document;
-mod entries;
-mod ground;
-mod number;
-mod recording;
-mod report;
-mod sector;
+mod of_blocks;
+mod of_desk;
+mod of_document;
+mod of_entries;
+mod of_ground;
+mod of_number;
+mod of_recording;
+mod of_report;
+mod of_sector;

@@ -9,10 +9,10 @@ use crate::sizes::{BLOCK, DESK, FORMATS, LAYOUT, RACK, READER, REPORT};
 use crate::version::{GROUND, MANIFEST};
 
 /// The exports, by the crate that they call.
-const TO_GROUND: &str = "crates/hansobrik/src/ground.rt";
-const TO_RECORDING: &str = "crates/hansobrik/src/recording.rt";
-const TO_SECTOR: &str = "crates/hansobrik/src/sector.rt";
-const TO_BLOCKS: &str = "crates/hansobrik/src/blocks.rt";
+const TO_GROUND: &str = "crates/hansobrik/src/of_ground.rt";
+const TO_RECORDING: &str = "crates/hansobrik/src/of_recording.rt";
+const TO_SECTOR: &str = "crates/hansobrik/src/of_sector.rt";
+const TO_BLOCKS: &str = "crates/hansobrik/src/of_blocks.rt";
 const SECTOR: &str = "crates/rack_sector/src/lib.rt";
 const NUMBER: &str = "crates/rack_number/src/lib.rt";
 
