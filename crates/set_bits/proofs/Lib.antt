@@ -1,1 +1,3 @@
 pub mod Stretches
+pub mod Words
+pub mod Turns
