@@ -4,7 +4,7 @@ use Rattle.player.specs.Places.{Places}
 use Rattle.pass_report.proofs.main.Given as goal
 
 abbrev pub invariant-loop-turns : goal.invariant-loop-turns
-invariant-loop-turns g l = (Places l.p) × (length l.line ≡ 44356)
+invariant-loop-turns l = (Places l.p) × (length l.line ≡ 44356)
 
 abbrev pub decreases-loop-turns : goal.decreases-loop-turns
-decreases-loop-turns g l = l.turns
+decreases-loop-turns l = l.turns
