@@ -408,12 +408,7 @@ fn close(rt: &HostRuntime, c: &Class) {
 }
 
 // The class, to its end.
-fn play(
-    rt: &HostRuntime,
-    begun: Class,
-    piece: &mut [u8; player::PIECE],
-    area: &mut [u8],
-)
+fn play(rt: &HostRuntime, begun: Class, piece: &mut [u8; player::PIECE], area: &mut [u8])
     requires { Places begun.player }
 {
     let mut times = [0u64; 8];

@@ -33,12 +33,7 @@ pub fn word_at(rt: &impl Env, place: usize, text: &mut [u8; WORD]) -> usize
 fn listened(rt: &impl Env, a: Asked, place: usize, t: Takes) -> Heard {
     let mut text = [0u8; WORD];
     match rt.arg(place, &mut text) {
-        Ok(n) => Heard::Word(hearing::heard(
-            a,
-            place,
-            spelling::word_of(a.awaits, &text[..n]),
-            t,
-        )),
+        Ok(n) => Heard::Word(hearing::heard(a, place, spelling::word_of(a.awaits, &text[..n]), t)),
         Err(FillError::TooLong) => Heard::Word(words::unserved(a, place)),
         Err(FillError::NotPresent) => Heard::Nothing,
     }

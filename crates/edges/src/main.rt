@@ -210,14 +210,7 @@ fn taken(a: Answer) -> usize {
 }
 
 // The refusal of a call with nothing to read, in a format, at a setting, with a record and a buffer that is lent.
-fn told(
-    rt: &HostRuntime,
-    name: &[u8],
-    format: u8,
-    setting: u8,
-    s: State,
-    line: &mut [u8],
-) {
+fn told(rt: &HostRuntime, name: &[u8], format: u8, setting: u8, s: State, line: &mut [u8]) {
     let none = [0u8; 1];
     let a = reader::read(format, setting, s, &none[..0], line);
     text::empty()
@@ -307,7 +300,8 @@ fn lines_at_edges(rt: &HostRuntime) {
     put_tail(&mut rec, 803);
     edge(rt, b"a tail inside noise", &rec, SPACE, SPACE);
     edge(
-        rt, b"a tail inside noise, pieces of 100 bytes",
+        rt,
+        b"a tail inside noise, pieces of 100 bytes",
         &rec,
         SPACE,
         100,
@@ -343,7 +337,8 @@ fn tails_at_edges(rt: &HostRuntime) {
     edge_at(rt, b"a tail with 3 wrong bits", 2, &rec, SPACE, SPACE);
     edge_at(rt, b"a tail with 3 wrong bits", 3, &rec, SPACE, SPACE);
     edge_at(
-        rt, b"a tail with 3 wrong bits, one-byte pieces,",
+        rt,
+        b"a tail with 3 wrong bits, one-byte pieces,",
         3,
         &rec,
         44364,
@@ -357,14 +352,16 @@ fn tails_at_edges(rt: &HostRuntime) {
     put_wrong(&mut rec, 1);
     put_tail(&mut rec, 64);
     edge_at(
-        rt, b"a tail with a wrong bit before the tail",
+        rt,
+        b"a tail with a wrong bit before the tail",
         0,
         &rec,
         SPACE,
         SPACE,
     );
     edge_at(
-        rt, b"a tail with a wrong bit before the tail",
+        rt,
+        b"a tail with a wrong bit before the tail",
         1,
         &rec,
         SPACE,
@@ -404,22 +401,40 @@ fn refusals(rt: &HostRuntime) {
     asked(rt, b"search bit 1 of 1", 1, searching(1, 1, 0, 0));
     asked(rt, b"search bits 2 of 1", 1, searching(2, 1, 0, 0));
     asked(
-        rt, b"remembered and unread bits together",
+        rt,
+        b"remembered and unread bits together",
         1,
         searching(5, 3, 2, 2),
     );
-    asked(rt, b"3 bits wait at position 11", 1, reading(11, 0, 7, 3, 0));
-    asked(rt, b"2 bits wait at position 11", 1, reading(11, 0, 3, 2, 0));
+    asked(
+        rt,
+        b"3 bits wait at position 11",
+        1,
+        reading(11, 0, 7, 3, 0),
+    );
+    asked(
+        rt,
+        b"2 bits wait at position 11",
+        1,
+        reading(11, 0, 3, 2, 0),
+    );
     asked(rt, b"waiting bits 8 of 3", 1, reading(11, 0, 8, 3, 0));
-    asked(rt, b"an unread bit inside a line", 1, reading(0, 0, 0, 0, 1));
+    asked(
+        rt,
+        b"an unread bit inside a line",
+        1,
+        reading(0, 0, 0, 0, 1),
+    );
     asked_short(
-        rt, b"impossible record and short buffer",
+        rt,
+        b"impossible record and short buffer",
         1,
         0,
         reading(0, 32768, 0, 0, 0),
     );
     asked(
-        rt, b"unknown format and impossible record",
+        rt,
+        b"unknown format and impossible record",
         4,
         reading(0, 32768, 0, 0, 0),
     );
@@ -427,7 +442,8 @@ fn refusals(rt: &HostRuntime) {
     asked_at(rt, b"setting 7", 1, 7, s);
     asked_at(rt, b"unknown format and setting 7", 4, 7, s);
     asked_at(
-        rt, b"setting 7 and impossible record",
+        rt,
+        b"setting 7 and impossible record",
         1,
         7,
         reading(0, 32768, 0, 0, 0),

@@ -26,7 +26,8 @@ pub fn all(rt: &HostRuntime) {
     doc(rt, b"DOC of zeros in format 3", 3, &line);
     let zeros = [0u8; 2291];
     told(
-        rt, b"zeros put in format 3",
+        rt,
+        b"zeros put in format 3",
         sector_writer::write::put_data(3, &mut line, 1, &zeros),
     );
     word(rt, b"zeros put in format 3", &line);

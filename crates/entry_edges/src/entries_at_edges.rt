@@ -159,37 +159,60 @@ fn revisions(rt: &HostRuntime) {
 
 fn segments(rt: &HostRuntime) {
     offered(rt, b"first segment, numbers 5 and 7", record(0, 5, 7), 3, 0);
-    offered(rt, b"equal segment of its own revision", record(1, 5, 0), 3, 0);
     offered(
-        rt, b"equal segment of another MANAM revision",
+        rt,
+        b"equal segment of its own revision",
+        record(1, 5, 0),
+        3,
+        0,
+    );
+    offered(
+        rt,
+        b"equal segment of another MANAM revision",
         record(1, 0, 7),
         3,
         0,
     );
     offered(
-        rt, b"equal segment of another calibration ID",
+        rt,
+        b"equal segment of another calibration ID",
         record(1, 5, 0),
         5,
         0,
     );
     offered(
-        rt, b"calibration-1, another MANAM revision",
+        rt,
+        b"calibration-1, another MANAM revision",
         record(1, 0, 7),
         4,
         0,
     );
-    offered(rt, b"new segment of another revision", record(2, 0, 7), 3, 0);
+    offered(
+        rt,
+        b"new segment of another revision",
+        record(2, 0, 7),
+        3,
+        0,
+    );
     offered(rt, b"other bytes", record(1, 0, 0), 3, 1);
-    offered(rt, b"other bytes of another revision", record(1, 0, 7), 3, 1);
+    offered(
+        rt,
+        b"other bytes of another revision",
+        record(1, 0, 7),
+        3,
+        1,
+    );
     offered(rt, b"orbit, both numbers others", record(1, 5, 7), 2, 0);
     offered(
-        rt, b"mapping, other bytes, both numbers others",
+        rt,
+        b"mapping, other bytes, both numbers others",
         record(1, 5, 7),
         1,
         1,
     );
     offered(
-        rt, b"another revision and a mark above 24",
+        rt,
+        b"another revision and a mark above 24",
         record(IMPOSSIBLE, 5, 7),
         3,
         0,

@@ -89,14 +89,7 @@ fn say_grid(row: Row, g: Grid) -> Row {
     degrees(degrees(image, g.latitude, 0), g.longitude, 2)
 }
 
-fn point(
-    rt: &HostRuntime,
-    format: u8,
-    a: Assembly,
-    block: &[u8],
-    row: u16,
-    column: u16,
-) -> bool {
+fn point(rt: &HostRuntime, format: u8, a: Assembly, block: &[u8], row: u16, column: u16) -> bool {
     let named = say(
         text::empty(),
         b"mapping row # column #",
@@ -233,13 +226,7 @@ fn levels(rt: &HostRuntime, format: u8, a: Assembly, block: &[u8]) -> bool {
 }
 
 // Some entries of a finished block.
-fn entries_of(
-    rt: &HostRuntime,
-    format: u8,
-    a: Assembly,
-    number: u8,
-    block: &[u8],
-) -> bool {
+fn entries_of(rt: &HostRuntime, format: u8, a: Assembly, number: u8, block: &[u8]) -> bool {
     if a.marks.segments != ALL {
         return true;
     }
@@ -252,14 +239,7 @@ fn entries_of(
 }
 
 // The row of a block, or some of its entries. The other blocks stand behind it in what is lent.
-fn within(
-    rt: &HostRuntime,
-    format: u8,
-    k: Kept,
-    number: u8,
-    room: &[u8],
-    asked: bool,
-) -> bool {
+fn within(rt: &HostRuntime, format: u8, k: Kept, number: u8, room: &[u8], asked: bool) -> bool {
     let from = place_of(number);
     if room.len() < from {
         return false;

@@ -44,13 +44,7 @@ fn opened(rt: &HostRuntime, piece: &mut [u8; player::PIECE]) -> Player
 }
 
 // Where a line is complete, its segment to the blocks, and its row.
-fn heard(
-    rt: &HostRuntime,
-    p: &Player,
-    d: Five,
-    plain: &[u8; LINE],
-    room: &mut [u8; ROOM],
-) -> Five {
+fn heard(rt: &HostRuntime, p: &Player, d: Five, plain: &[u8; LINE], room: &mut [u8; ROOM]) -> Five {
     if !p.whole {
         return d;
     }
