@@ -19,7 +19,7 @@ enum Heard {
     Word(Asked),
 }
 
-// The word at a place, and its length: 0 where there is none, and where it is too long for a word of any kind.
+// Inner. The word at a place, and its length: 0 where there is none, and where it is too long for a word of any kind.
 pub fn word_at(rt: &impl Env, place: usize, text: &mut [u8; WORD]) -> usize
     ensures in_bounds { result ≤ length text.new }
 {

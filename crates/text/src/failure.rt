@@ -7,7 +7,7 @@ use std::io::{Cursor, Print, Write};
 // The bytes that an error's text has room for, its number included.
 const ROOM: usize = 128;
 
-// What failed, as the caller names it, a colon and the system's text of the error, as a line on standard error.
+// Inner. What failed, as the caller names it, a colon and the system's text of the error, as a line on standard error.
 pub fn fail(rt: &HostRuntime, what: &[u8], error: &io::Error) {
     let err = rt.stderr();
     let mut room = Cursor::new([0u8; ROOM]);
