@@ -16,13 +16,15 @@ import sys
 WORD = re.compile(r"[A-Za-z][A-Za-z0-9_'-]*")
 HEAD = re.compile(r"^(?:(?:unfoldable|abbrev|pub|private)\s+)*([A-Za-z][A-Za-z0-9_'-]*)\s*:(?!=)\s*(.*)$")
 KIND = re.compile(r"^(?:(?:abbrev|pub)\s+)*(data|record)\s+(?:pub\s+)?([A-Za-z][A-Za-z0-9_'-]*)")
-INNER = re.compile(r"^\s+([A-Za-z][A-Za-z0-9_'-]*)\s*:(?!=)")
+INNER = re.compile(r"^\s+(?:(?:unfoldable|abbrev|pub|private)\s+)*([A-Za-z][A-Za-z0-9_'-]*)\s*:(?!=)\s*(.*)$")
 CASE = re.compile(r"^\s+\|?\s*([A-Za-z][A-Za-z0-9_'-]*)\s*(?::|\||$)")
 USE = re.compile(r"\buse\s+([\w.'+-]+)\.\{([^}]*)\}")
 
 
 # Lemmas that would take the name of a definition: they say what it is.
 APART = "before-sync doc-word joined-pixel lines-in low-first mirror-byte mode-byte named-by new-bit no-take revision-given slot-tests some-over take-tests tally-at bit-and".split()
+# Fields and inner laws whose new name would hide another in their file, or is the library's: they stay.
+KEPT = "format-of empty-report fresh-assembly put-sync-left write-line-left bit-of taken-lines pixels-in level-revision f64-field mul-two cut-whole run-append holds-first".split()
 # Names of today that a renamed definition would hide, file by file.
 MOVED = {"crates/demands/specs/Ones.antt": {"read_left": "reader_left"}, "crates/demands/proofs/AsFormat1.antt": {"read_left": "reader_left"}}
 # Modules whose name the toolchain now takes for its own.
@@ -72,9 +74,10 @@ def declared(path):
                 if "goal." in rest or "tie." in rest or "statement" in rest:
                     continue
                 found[h[1]] = re.search(r"(→\s*)?Type 0\s*$", rest.strip()) is not None
-        elif kind:
-            m = INNER.match(line) or CASE.match(line)
-            if m:
+        else:
+            # a field or a case, or a definition or a law inside a module or behind a `where`
+            m = INNER.match(line) or (CASE.match(line) if kind else None)
+            if m and not line.strip().startswith("let ") and m[1] not in KEPT:
                 found.setdefault(m[1], False)
     return found
 

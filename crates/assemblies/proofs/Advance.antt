@@ -27,7 +27,7 @@ use Rattle.copies.specs.Copies.{segment_of, differs, copy_refusal, place_refusal
 use Rattle.segments.proofs.Known.{Carries, carries}
 use Rattle.assemblies.specs.Runs.{State, step, answer_to, taken}
 use Rattle.assemblies.proofs.Marking.{marked_own, marked_other, marked_none}
-use Rattle.assemblies.proofs.Stored.{stored-own, stored_other, stored_behind}
+use Rattle.assemblies.proofs.Stored.{stored_own, stored_other, stored_behind}
 
 -- ---- the record
 
@@ -44,9 +44,9 @@ marked_started a s h = by (eqb a.marks.segments 0) refl
 
 pub record Advanced (n : ℕ) (line : List ℕ) (a a' : State) : Type 0 where
   pub small : segment_in line ≤ 24
-  pub is-marked : marked a'.assembly.marks (segment_in line) ≡ true
+  pub is_marked : marked a'.assembly.marks (segment_in line) ≡ true
   pub own : stretch a'.block (segment_in line * segment_bytes (block_of n)) (segment_bytes (block_of n)) ≡ segment_of (block_of n) line
-  pub keeps-mark : (t : ℕ) → marked a.assembly.marks t ≡ true → marked a'.assembly.marks t ≡ true
+  pub keeps_mark : (t : ℕ) → marked a.assembly.marks t ≡ true → marked a'.assembly.marks t ≡ true
   pub keeps : (t : ℕ) → marked a.assembly.marks t ≡ true
       → stretch a'.block (t * segment_bytes (block_of n)) (segment_bytes (block_of n)) ≡ stretch a.block (t * segment_bytes (block_of n)) (segment_bytes (block_of n))
   pub only : (t : ℕ) → (t ≡ segment_in line → ⊥) → marked a'.assembly.marks t ≡ marked a.assembly.marks t
@@ -68,9 +68,9 @@ module _ (f n : ℕ) (a : State) (line : List ℕ) where
       by zero ok = refl
       by (suc k) ok = absurd (true≢false (sym ok))
 
-  taken-after : add_segment_refusal f a.assembly line n a.block ≡ 0 → step f n a line ≡ After
+  taken_after : add_segment_refusal f a.assembly line n a.block ≡ 0 → step f n a line ≡ After
   unfolding step add_segment_answer add_segment_left answered kept
-  taken-after e =
+  taken_after e =
       let at : ℕ → State = λ k. record { assembly = assembly_after a.assembly (answered Refused k (placed_on a.assembly line (segment_in line))); block = kept k a.block (block_with (block_of n) a.assembly.marks line (segment_in line) a.block) } in
       ap at e
 
@@ -83,9 +83,9 @@ module _ (f n : ℕ) (a : State) (line : List ℕ) where
         let stored : List ℕ = stretch a.block (segment_in line * segment_bytes b) (segment_bytes b) in
         rw is (record {
           small = h.segment;
-          is-marked = is;
+          is_marked = is;
           own = sym (same_eq (segment_of b line) stored (not-false (same (segment_of b line) stored) e));
-          keeps-mark = λ t p. p;
+          keeps_mark = λ t p. p;
           keeps = λ t p. refl;
           only = λ t ne. refl;
           behind = refl;
@@ -103,9 +103,9 @@ module _ (f n : ℕ) (a : State) (line : List ℕ) where
         let other : (t : ℕ) → marked m t ≡ true → t ≡ s → ⊥ = λ t p e. true≢false (sym p ∙ ap (marked m) e ∙ is) in
         rw is (record {
           small = h.segment;
-          is-marked = marked_own m s;
-          own = stored-own b line a.block sb h.long h.room s h.segment;
-          keeps-mark = λ t p. marked_other m s t (other t p) ∙ p;
+          is_marked = marked_own m s;
+          own = stored_own b line a.block sb h.long h.room s h.segment;
+          keeps_mark = λ t p. marked_other m s t (other t p) ∙ p;
           keeps = λ t p. stored_other b line a.block sb h.long h.room s t h.segment (other t p);
           only = λ t ne. marked_other m s t ne;
           behind = stored_behind b line a.block sb h.long h.room s h.segment;
@@ -126,5 +126,5 @@ module _ (f n : ℕ) (a : State) (line : List ℕ) where
       let rest = none_second (carried_refusal f m line n (length a.block)) _ none in
       let unforeign : foreign n a.assembly (revisions_in line) ≡ false = none_when _ 14 (λ z. omega arith) (none_first (foreign_refusal n a.assembly (revisions_in line)) _ rest) in
       let equal : (marked m (segment_in line) && differs (block_of n) line (segment_in line) a.block) ≡ false = none_when _ 8 (λ z. omega arith) (none_second (foreign_refusal n a.assembly (revisions_in line)) _ rest) in
-      subst (λ (x : State). Advanced n line a x) (sym (taken-after none))
+      subst (λ (x : State). Advanced n line a x) (sym (taken_after none))
       (either (carries f m line n (length a.block) (none_first (carried_refusal f m line n (length a.block)) _ none)) unforeign (marked m (segment_in line)) refl equal)

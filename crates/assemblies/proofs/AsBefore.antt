@@ -27,14 +27,14 @@ earlier a = record { marks = a.assembly.marks; block = a.block }
 -- ---- a line that is not foreign
 
 module _ (f n : ℕ) (a : State) (line : List ℕ) (own : foreign n a.assembly (revisions_in line) ≡ false) where
-  pub refusal-before : add_segment_refusal f a.assembly line n a.block ≡ earlier_refusal f a.assembly.marks line n a.block
+  pub refusal_before : add_segment_refusal f a.assembly line n a.block ≡ earlier_refusal f a.assembly.marks line n a.block
   unfolding add_segment_refusal earlier_refusal place_refusal foreign_refusal when first
-  refusal-before = rw own refl
+  refusal_before = rw own refl
 
   -- segment, and whether it is the first copy
-  pub values-before : (added_segment (answer_to f n a line), added_new (answer_to f n a line)) ≡ earlier_values f a.assembly.marks line n a.block
+  pub values_before : (added_segment (answer_to f n a line), added_new (answer_to f n a line)) ≡ earlier_values f a.assembly.marks line n a.block
   unfolding add_segment_answer earlier_values answered kept
-  values-before = ap (λ (k : ℕ). told (answered Refused k (placed_on a.assembly line (segment_in line)))) refusal-before ∙ by (earlier_refusal f a.assembly.marks line n a.block)
+  values_before = ap (λ (k : ℕ). told (answered Refused k (placed_on a.assembly line (segment_in line)))) refusal_before ∙ by (earlier_refusal f a.assembly.marks line n a.block)
     where
       told : Added → ℕ × Bool
       told r = (added_segment r, added_new r)
@@ -43,11 +43,11 @@ module _ (f n : ℕ) (a : State) (line : List ℕ) (own : foreign n a.assembly (
       by zero = refl
       by (suc k) = refl
 
-  pub step-before : earlier (step f n a line) ≡ earlier_step f n (earlier a) line
+  pub step_before : earlier (step f n a line) ≡ earlier_step f n (earlier a) line
   unfolding step earlier_step add_segment_answer add_segment_left answered kept assembly_with
-  step-before =
-      ap (λ (k : ℕ). made (assembly_after a.assembly (answered Refused k (placed_on a.assembly line (segment_in line)))).marks (kept k a.block becomes)) refusal-before
-      ∙ ap (λ (m : Marks). made m (kept (earlier_refusal f a.assembly.marks line n a.block) a.block becomes)) (marks-kept (earlier_refusal f a.assembly.marks line n a.block))
+  step_before =
+      ap (λ (k : ℕ). made (assembly_after a.assembly (answered Refused k (placed_on a.assembly line (segment_in line)))).marks (kept k a.block becomes)) refusal_before
+      ∙ ap (λ (m : Marks). made m (kept (earlier_refusal f a.assembly.marks line n a.block) a.block becomes)) (marks_kept (earlier_refusal f a.assembly.marks line n a.block))
     where
       becomes : List ℕ
       becomes = block_with (block_of n) a.assembly.marks line (segment_in line) a.block
@@ -55,9 +55,9 @@ module _ (f n : ℕ) (a : State) (line : List ℕ) (own : foreign n a.assembly (
       made : Marks → List ℕ → Earlier
       made m block = record { marks = m; block = block }
 
-      marks-kept : (k : ℕ) → (assembly_after a.assembly (answered Refused k (placed_on a.assembly line (segment_in line)))).marks ≡ kept k a.assembly.marks (marks_with a.assembly.marks (segment_in line))
-      marks-kept zero = refl
-      marks-kept (suc k) = refl
+      marks_kept : (k : ℕ) → (assembly_after a.assembly (answered Refused k (placed_on a.assembly line (segment_in line)))).marks ≡ kept k a.assembly.marks (marks_with a.assembly.marks (segment_in line))
+      marks_kept zero = refl
+      marks_kept (suc k) = refl
 
 -- ---- mapping and orbit go by no revision
 
@@ -75,14 +75,14 @@ pub record AsBefore (f n : ℕ) (a : State) (line : List ℕ) : Type 0 where
   pub after : earlier (step f n a line) ≡ earlier_step f n (earlier a) line
 
 pub own_as_before : (f n : ℕ) (a : State) (line : List ℕ) → foreign n a.assembly (revisions_in line) ≡ false → AsBefore f n a line
-own_as_before f n a line own = record { number = refusal-before f n a line own; values = values-before f n a line own; after = step-before f n a line own }
+own_as_before f n a line own = record { number = refusal_before f n a line own; values = values_before f n a line own; after = step_before f n a line own }
 
 module _ (f n : ℕ) (small : n ≤ orbit) where
   pub as_before : (a : State) (line : List ℕ) → AsBefore f n a line
   as_before a line = own_as_before f n a line (none_foreign n a.assembly (revisions_in line) small)
 
   -- any run of lines
-  pub run-as-before : (ls : List (List ℕ)) (a : State) → earlier (run f n a ls) ≡ earlier_run f n (earlier a) ls
+  pub run_as_before : (ls : List (List ℕ)) (a : State) → earlier (run f n a ls) ≡ earlier_run f n (earlier a) ls
   unfolding run earlier_run
-  run-as-before [] a = refl
-  run-as-before (l ∷ ls) a = run-as-before ls (step f n a l) ∙ ap (λ (x : Earlier). earlier_run f n x ls) (as_before a l).after
+  run_as_before [] a = refl
+  run_as_before (l ∷ ls) a = run_as_before ls (step f n a l) ∙ ap (λ (x : Earlier). earlier_run f n x ls) (as_before a l).after

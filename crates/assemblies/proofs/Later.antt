@@ -22,20 +22,20 @@ module _ (n : ℕ) (a : Assembly) (line : List ℕ) (s : ℕ) (block : List ℕ)
   stored = stretch block (s * segment_bytes (block_of n)) (segment_bytes (block_of n))
 
   module _ (known : marked a.marks s ≡ true) (own : foreign n a (revisions_in line) ≡ false) where
-    pub equal-copy : segment_of (block_of n) line ≡ stored → (place_answer n a line s block ≡ placed a s false) × (place_left n a line s block ≡ block)
+    pub equal_copy : segment_of (block_of n) line ≡ stored → (place_answer n a line s block ≡ placed a s false) × (place_left n a line s block ≡ block)
     unfolding place_answer place_left place_refusal foreign_refusal copy_refusal differs assembly_with marks_with block_with when first answered kept
-    equal-copy e =
+    equal_copy e =
         let equal : same (segment_of (block_of n) line) stored ≡ true = ap (λ (l : List ℕ). same l stored) e ∙ same_refl stored in
         (rw (known, own, equal, remembered_kept a (revisions_in line) (marked_started a s known)) refl, rw (known, own, equal) refl)
 
-    pub other-copy : (segment_of (block_of n) line ≡ stored → ⊥) → (place_answer n a line s block ≡ added.Refused 8) × (place_left n a line s block ≡ block)
+    pub other_copy : (segment_of (block_of n) line ≡ stored → ⊥) → (place_answer n a line s block ≡ added.Refused 8) × (place_left n a line s block ≡ block)
     unfolding place_answer place_left place_refusal foreign_refusal copy_refusal differs when first answered kept
-    other-copy ne = (rw (known, own, differing (same (segment_of (block_of n) line) stored) refl) refl, rw (known, own, differing (same (segment_of (block_of n) line) stored) refl) refl)
+    other_copy ne = (rw (known, own, differing (same (segment_of (block_of n) line) stored) refl) refl, rw (known, own, differing (same (segment_of (block_of n) line) stored) refl) refl)
       where
         differing : (t : Bool) → same (segment_of (block_of n) line) stored ≡ t → same (segment_of (block_of n) line) stored ≡ false
         differing true e = absurd (ne (same_eq (segment_of (block_of n) line) stored e))
         differing false e = e
 
-  pub foreign-copy : foreign n a (revisions_in line) ≡ true → (place_answer n a line s block ≡ added.Refused 14) × (place_left n a line s block ≡ block)
+  pub foreign_copy : foreign n a (revisions_in line) ≡ true → (place_answer n a line s block ≡ added.Refused 14) × (place_left n a line s block ≡ block)
   unfolding place_answer place_left place_refusal foreign_refusal when first answered kept
-  foreign-copy h = (rw h refl, rw h refl)
+  foreign_copy h = (rw h refl, rw h refl)

@@ -22,11 +22,11 @@ use Rattle.entries.specs.Entries.{revised_value, revision_refusal, revision_answ
 use Rattle.entries.proofs.Known.{given}
 use Rattle.calibration.specs.declared.Levels.{Levels}
 use Rattle.calibration.specs.Tables.{leveled, level_answer, leveled_f64, level_f64_answer}
-use Rattle.calibration.proofs.Revised.{level-revision, level-f64-revision}
+use Rattle.calibration.proofs.Revised.{level-revision, level_f64_revision}
 use Rattle.assemblies.specs.Runs.{State, begun, answer_to, step, run, taken, Taken, taken_lines, first_with, named, All, OneRevision}
 use Rattle.assemblies.proofs.Advance.{Advanced, advances, marked_started}
 use Rattle.revisions.proofs.Ways.{remembered_kept}
-use Rattle.assemblies.proofs.Skips.{step_refused, skips-refused, taken-lines, finished_any}
+use Rattle.assemblies.proofs.Skips.{step_refused, skips_refused, taken-lines, finished_any}
 
 -- what holds of every line holds of the first that names a segment
 of_first : (P : List ℕ → Type 0) (s : ℕ) (ls : List (List ℕ)) → All P ls → named s ls ≡ true → P (first_with s ls)
@@ -41,19 +41,19 @@ of_first P s (l ∷ ls) all h = by (eqb (segment_in l) s) h (of_first P s ls all
 module _ (f n : ℕ) where
   -- ---- THE REMEMBERED NUMBERS NEVER CHANGE while a segment is marked, whatever the lines are and whether they are taken
 
-  keeps-step : (a : State) (l : List ℕ) → started a.assembly ≡ true → ((step f n a l).assembly.revisions ≡ a.assembly.revisions) × (started (step f n a l).assembly ≡ true)
-  keeps-step a l h = by (taken (answer_to f n a l)) refl
+  keeps_step : (a : State) (l : List ℕ) → started a.assembly ≡ true → ((step f n a l).assembly.revisions ≡ a.assembly.revisions) × (started (step f n a l).assembly ≡ true)
+  keeps_step a l h = by (taken (answer_to f n a l)) refl
     where
       by : (t : Bool) → taken (answer_to f n a l) ≡ t → ((step f n a l).assembly.revisions ≡ a.assembly.revisions) × (started (step f n a l).assembly ≡ true)
       by true e =
           let one : Advanced n l a (step f n a l) = advances f n a l e in
-          (one.remembers ∙ remembered_kept a.assembly (revisions_in l) h, marked_started (step f n a l).assembly (segment_in l) one.is-marked)
+          (one.remembers ∙ remembered_kept a.assembly (revisions_in l) h, marked_started (step f n a l).assembly (segment_in l) one.is_marked)
       by false e = let same = step_refused f n a l e in (ap (λ (x : State). x.assembly.revisions) same, ap (λ (x : State). started x.assembly) same ∙ h)
 
-  pub never-change : (ls : List (List ℕ)) (a : State) → started a.assembly ≡ true → (run f n a ls).assembly.revisions ≡ a.assembly.revisions
+  pub never_change : (ls : List (List ℕ)) (a : State) → started a.assembly ≡ true → (run f n a ls).assembly.revisions ≡ a.assembly.revisions
   unfolding run
-  never-change [] a h = refl
-  never-change (l ∷ ls) a h = let one = keeps-step a l h in never-change ls (step f n a l) one.1 ∙ one.0
+  never_change [] a h = refl
+  never_change (l ∷ ls) a h = let one = keeps_step a l h in never_change ls (step f n a l) one.1 ∙ one.0
 
   -- ---- the lines that were taken
 
@@ -62,7 +62,7 @@ module _ (f n : ℕ) where
   unfolding Taken All
   all_own [] a ok h = tt
   all_own (l ∷ ls) a ok h =
-      let one = keeps-step a l h in (
+      let one = keeps_step a l h in (
         sym (advances f n a l ok.0).revision ∙ ap (revision_of n) one.0,
         subst (λ (r : Revisions). All (λ k. revision_of n (revisions_in k) ≡ revision_of n r) ls) one.0 (all_own ls (step f n a l) ok.1 one.1),
       )
@@ -73,8 +73,8 @@ module _ (f n : ℕ) where
   all_one [] a ok = tt
   all_one (l ∷ ls) a ok =
       let one : Advanced n l a (step f n a l) = advances f n a l ok.0 in
-      let h : started (step f n a l).assembly ≡ true = marked_started (step f n a l).assembly (segment_in l) one.is-marked in
-      let end : (run f n (step f n a l) ls).assembly.revisions ≡ (step f n a l).assembly.revisions = never-change ls (step f n a l) h in (
+      let h : started (step f n a l).assembly ≡ true = marked_started (step f n a l).assembly (segment_in l) one.is_marked in
+      let end : (run f n (step f n a l) ls).assembly.revisions ≡ (step f n a l).assembly.revisions = never_change ls (step f n a l) h in (
         sym one.revision ∙ ap (revision_of n) (sym end),
         subst (λ (r : Revisions). All (λ k. revision_of n (revisions_in k) ≡ revision_of n r) ls) (sym end) (all_own ls (step f n a l) ok.1 h),
       )
@@ -85,7 +85,7 @@ module _ (f n : ℕ) where
   of_one r block lines all =
       let ls : List (List ℕ) = taken_lines f n (begun r block) lines in
       let whole = finished_any f n r block lines all in
-      let carried = subst (λ (x : State). All (λ l. revision_of n (revisions_in l) ≡ revision_of n x.assembly.revisions) ls) (sym (skips-refused f n lines (begun r block))) (all_one ls (begun r block) (taken-lines f n lines (begun r block))) in
+      let carried = subst (λ (x : State). All (λ l. revision_of n (revisions_in l) ≡ revision_of n x.assembly.revisions) ls) (sym (skips_refused f n lines (begun r block))) (all_one ls (begun r block) (taken-lines f n lines (begun r block))) in
       record { whole = whole; carried = carried; brought = λ s k. of_first (λ l. revision_of n (revisions_in l) ≡ revision_of n (run f n (begun r block) lines).assembly.revisions) s ls carried (whole.each s k) }
 
 -- ---- what the calls answer
@@ -115,4 +115,4 @@ never_half_level t f r block lines c m x v e = never_half f calibration2 r block
 pub never_half_level_f64 : (t : Levels) (f : ℕ) (r : Revisions) (block : List ℕ) (lines : List (List ℕ)) (c m : ℕ) (x : Ieee.Float) (v : ℕ)
     → level_f64_answer t f (run f calibration2 (begun r block) lines).assembly (run f calibration2 (begun r block) lines).block c m ≡ leveled_f64 (x, v)
     → OneRevision calibration2 v (taken_lines f calibration2 (begun r block) lines) block (run f calibration2 (begun r block) lines).block
-never_half_level_f64 t f r block lines c m x v e = never_half f calibration2 r block lines v (level-f64-revision t f _ _ c m x v e)
+never_half_level_f64 t f r block lines c m x v e = never_half f calibration2 r block lines v (level_f64_revision t f _ _ c m x v e)

@@ -31,13 +31,13 @@ module _ (f n : ℕ) where
       let b : Block = block_of n in
       let one : Advanced n l a (step f n a l) = advances f n a l ok.0 in
       let kept : stretch (step f n a l).block (t * segment_bytes b) (segment_bytes b) ≡ x = one.keeps t h ∙ e in
-      let rest = stays ls (step f n a l) ok.1 t (one.keeps-mark t h) x kept in
+      let rest = stays ls (step f n a l) ok.1 t (one.keeps_mark t h) x kept in
       (rest.0, ((λ own. sym one.own ∙ ap (λ (s : ℕ). stretch (step f n a l).block (s * segment_bytes b) (segment_bytes b)) own ∙ kept), rest.1))
 
   -- a segment that comes in the run: its bytes are those of the first line that names it, and every other line that
   -- names it carries the same
   pub record Came (ls : List (List ℕ)) (end : State) (t : ℕ) : Type 0 where
-    pub by-line : named t ls ≡ true
+    pub by_line : named t ls ≡ true
     pub bytes : stretch end.block (t * segment_bytes (block_of n)) (segment_bytes (block_of n)) ≡ segment_of (block_of n) (first_with t ls)
     pub copies : All (λ l. segment_in l ≡ t → segment_of (block_of n) l ≡ segment_of (block_of n) (first_with t ls)) ls
 
@@ -47,12 +47,12 @@ module _ (f n : ℕ) where
   here l ls a ok t own e =
       let b : Block = block_of n in
       let one : Advanced n l a (step f n a l) = advances f n a l ok.0 in
-      let is : marked (step f n a l).assembly.marks t ≡ true = ap (marked (step f n a l).assembly.marks) (sym own) ∙ one.is-marked in
+      let is : marked (step f n a l).assembly.marks t ≡ true = ap (marked (step f n a l).assembly.marks) (sym own) ∙ one.is_marked in
       let bytes : stretch (step f n a l).block (t * segment_bytes b) (segment_bytes b) ≡ segment_of b l = ap (λ (s : ℕ). stretch (step f n a l).block (s * segment_bytes b) (segment_bytes b)) (sym own) ∙ one.own in
       let rest = stays ls (step f n a l) ok.1 t is (segment_of b l) bytes in
       let first : l ≡ first_with t (l ∷ ls) = rw e in
       record {
-        by-line = rw e;
+        by_line = rw e;
         bytes = rest.0 ∙ ap (segment_of b) first;
         copies = subst (λ (y : List ℕ). All (λ k. segment_in k ≡ t → segment_of b k ≡ segment_of b y) (l ∷ ls)) first ((λ z. refl), rest.1);
       }
@@ -63,7 +63,7 @@ module _ (f n : ℕ) where
       let b : Block = block_of n in
       let first : first_with t ls ≡ first_with t (l ∷ ls) = rw e in
       record {
-        by-line = rw e c.by-line;
+        by_line = rw e c.by_line;
         bytes = c.bytes ∙ ap (segment_of b) first;
         copies = subst (λ (y : List ℕ). All (λ k. segment_in k ≡ t → segment_of b k ≡ segment_of b y) (l ∷ ls)) first ((λ z. absurd (ne z)), c.copies);
       }
@@ -86,10 +86,10 @@ module _ (f n : ℕ) where
   all_small (l ∷ ls) a ok = ((advances f n a l ok.0).small, all_small ls (step f n a l) ok.1)
 
   -- the bytes behind the block are kept
-  all-behind : (ls : List (List ℕ)) (a : State) → Taken f n a ls → drop (block_of n).size (run f n a ls).block ≡ drop (block_of n).size a.block
+  all_behind : (ls : List (List ℕ)) (a : State) → Taken f n a ls → drop (block_of n).size (run f n a ls).block ≡ drop (block_of n).size a.block
   unfolding Taken run
-  all-behind [] a ok = refl
-  all-behind (l ∷ ls) a ok = all-behind ls (step f n a l) ok.1 ∙ (advances f n a l ok.0).behind
+  all_behind [] a ok = refl
+  all_behind (l ∷ ls) a ok = all_behind ls (step f n a l) ok.1 ∙ (advances f n a l ok.0).behind
 
 -- 25 segments fill a block, whatever its number
 fills : (n : ℕ) → 25 * segment_bytes (block_of n) ≡ (block_of n).size
@@ -118,7 +118,7 @@ finished f n r block lines ok all =
     let came : (t : ℕ) → t ≤ 24 → Came f n lines end t = λ t small. comes f n lines (begun r block) ok t (marked_none t) (marked_all end.assembly.marks t all (omega arith)) in
     record {
       is = ap (λ (k : ℕ). take k end.block) (sym (fills n)) ∙ parts b end.block (λ s. segment_of b (first_with s lines)) 25 (λ s p. (came s (omega arith)).bytes);
-      each = λ s k. (came s k).by-line;
+      each = λ s k. (came s k).by_line;
       copies = by_segment (λ t l. segment_of b l ≡ segment_of b (first_with t lines)) lines (λ t k. (came t k).copies) (all_small f n lines (begun r block) ok);
-      behind = all-behind f n lines (begun r block) ok;
+      behind = all_behind f n lines (begun r block) ok;
     }

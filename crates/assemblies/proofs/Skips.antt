@@ -5,7 +5,7 @@ use mathlib.Core.Bool.{Bool, true, false, cond, false≢true}
 use mathlib.Core.List.{List, [], ◌∷◌}
 use Prim.Native.Nat.{ℕ}
 use native.Mathlib.Omega.{arith}
-use Rattle.refusals.proofs.Given.{answered-kept}
+use Rattle.refusals.proofs.Given.{answered_kept}
 use Rattle.blocks.specs.declared.assembly.Revisions.{Revisions}
 use Rattle.blocks.specs.declared.assembly.Assembly.{Assembly}
 use Rattle.blocks.specs.Blocks.{block_of}
@@ -21,7 +21,7 @@ use Rattle.assemblies.proofs.Run.{finished}
 -- a refused call leaves the block buffer
 pub block_refused : (f : ℕ) (a : Assembly) (line : List ℕ) (n : ℕ) (block : List ℕ) (k : ℕ) → add_segment_answer f a line n block ≡ Refused k → add_segment_left f a line n block ≡ block
 unfolding add_segment_answer add_segment_left
-block_refused f a line n block k e = answered-kept Refused _ (placed_on a line (segment_in line)) k block _ (λ d. let z : ◌≡◌ {A = ℕ} 0 1 = cc in let w : ⊥ = omega arith in w) e
+block_refused f a line n block k e = answered_kept Refused _ (placed_on a line (segment_in line)) k block _ (λ d. let z : ◌≡◌ {A = ℕ} 0 1 = cc in let w : ⊥ = omega arith in w) e
 
 -- a refused line changes nothing
 pub step_refused : (f n : ℕ) (a : State) (l : List ℕ) → taken (answer_to f n a l) ≡ false → step f n a l ≡ a
@@ -52,16 +52,16 @@ module _ (f n : ℕ) where
       go false e ih = ih ∙ ap (λ (x : State). run f n x rest) (step_refused f n a l (keeps (answer_to f n a l) e))
 
   -- every refused line
-  pub skips-refused : (ls : List (List ℕ)) (a : State) → run f n a ls ≡ run f n a (taken_lines f n a ls)
-  skips-refused = skips taken (λ r e. e)
+  pub skips_refused : (ls : List (List ℕ)) (a : State) → run f n a ls ≡ run f n a (taken_lines f n a ls)
+  skips_refused = skips taken (λ r e. e)
 
   -- THE LINES REFUSED WITH 14 might as well not be in the run
-  pub skips-foreign : (ls : List (List ℕ)) (a : State) → run f n a ls ≡ run f n a (unforeign_lines f n a ls)
-  skips-foreign = skips unforeign foreign-refused
+  pub skips_foreign : (ls : List (List ℕ)) (a : State) → run f n a ls ≡ run f n a (unforeign_lines f n a ls)
+  skips_foreign = skips unforeign foreign_refused
     where
-      foreign-refused : (r : Added) → unforeign r ≡ false → taken r ≡ false
-      foreign-refused (Is p) e = absurd (false≢true (sym e))
-      foreign-refused (Refused k) e = refl
+      foreign_refused : (r : Added) → unforeign r ≡ false → taken r ≡ false
+      foreign_refused (Is p) e = absurd (false≢true (sym e))
+      foreign_refused (Refused k) e = refl
 
   -- those that are left were all taken
   pub taken-lines : (ls : List (List ℕ)) (a : State) → Taken f n a (taken_lines f n a ls)
@@ -80,6 +80,6 @@ module _ (f n : ℕ) where
 pub finished_any : (f n : ℕ) (r : Revisions) (block : List ℕ) (lines : List (List ℕ)) → (run f n (begun r block) lines).assembly.marks.segments ≡ all_marks
     → Finished (block_of n) (taken_lines f n (begun r block) lines) block (run f n (begun r block) lines).block
 finished_any f n r block lines all =
-    let without = skips-refused f n lines (begun r block) in
+    let without = skips_refused f n lines (begun r block) in
     subst (λ (x : State). Finished (block_of n) (taken_lines f n (begun r block) lines) block x.block) (sym without)
     (finished f n r block (taken_lines f n (begun r block) lines) (taken-lines f n lines (begun r block)) (ap (λ (x : State). x.assembly.marks.segments) (sym without) ∙ all))

@@ -23,16 +23,16 @@ use Rattle.assemblies.specs.Runs.{side_by_side}
 -- ---- a list with n elements t put from a place on
 
 module _ (d : List ℕ) (at n : ℕ) (t : List ℕ) (lt : length t ≡ n) (fits : at + n ≤ length d) where
-  put-own : stretch (take at d ++ t ++ drop (at + n) d) at n ≡ t
+  put_own : stretch (take at d ++ t ++ drop (at + n) d) at n ≡ t
   unfolding stretch
-  put-own =
+  put_own =
       ap (λ (l : List ℕ). take n (drop at l)) (append_assoc (take at d) t (drop (at + n) d))
       ∙ ap (take n) (drop_at (take at d) (t ++ drop (at + n) d) at (length-take-le at d (omega arith)))
       ∙ take_at t (drop (at + n) d) n lt
 
-  put-before : (from k : ℕ) → from + k ≤ at → stretch (take at d ++ t ++ drop (at + n) d) from k ≡ stretch d from k
+  put_before : (from k : ℕ) → from + k ≤ at → stretch (take at d ++ t ++ drop (at + n) d) from k ≡ stretch d from k
   unfolding stretch
-  put-before from k h =
+  put_before from k h =
       let more : ℕ = at - from in
       let rest : List ℕ = t ++ drop (at + n) d in
       let e : at ≡ from + more = omega arith in
@@ -58,13 +58,13 @@ module _ (d : List ℕ) (at n : ℕ) (t : List ℕ) (lt : length t ≡ n) (fits 
 -- ---- a segment of a block
 
 module _ (b : Block) (line block : List ℕ) (sound : Sound b) (long : line_bytes ≤ length line) (whole : b.size ≤ length block) where
-  segment-length : length (segment_of b line) ≡ segment_bytes b
+  segment_length : length (segment_of b line) ≡ segment_bytes b
   unfolding segment_of
-  segment-length = stretch_length line (b.first - 1) (segment_bytes b) (in_line b (length line) sound long)
+  segment_length = stretch_length line (b.first - 1) (segment_bytes b) (in_line b (length line) sound long)
 
-  pub stored-own : (s : ℕ) → s ≤ 24 → stretch (stored_of b line s block) (s * segment_bytes b) (segment_bytes b) ≡ segment_of b line
+  pub stored_own : (s : ℕ) → s ≤ 24 → stretch (stored_of b line s block) (s * segment_bytes b) (segment_bytes b) ≡ segment_of b line
   unfolding stored_of
-  stored-own s h = put-own block (s * segment_bytes b) (segment_bytes b) (segment_of b line) segment-length (in_block b s (length block) sound h whole)
+  stored_own s h = put_own block (s * segment_bytes b) (segment_bytes b) (segment_of b line) segment_length (in_block b s (length block) sound h whole)
 
   pub stored_other : (s t : ℕ) → s ≤ 24 → (t ≡ s → ⊥) → stretch (stored_of b line s block) (t * segment_bytes b) (segment_bytes b) ≡ stretch block (t * segment_bytes b) (segment_bytes b)
   unfolding stored_of stretch
@@ -72,17 +72,17 @@ module _ (b : Block) (line block : List ℕ) (sound : Sound b) (long : line_byte
     where
       by : (c : Bool) → ltb t s ≡ c → stretch (stored_of b line s block) (t * segment_bytes b) (segment_bytes b) ≡ stretch block (t * segment_bytes b) (segment_bytes b)
       by true e =
-          put-before block (s * segment_bytes b) (segment_bytes b) (segment_of b line) segment-length (in_block b s (length block) sound hs whole) (t * segment_bytes b) (segment_bytes b)
+          put_before block (s * segment_bytes b) (segment_bytes b) (segment_of b line) segment_length (in_block b s (length block) sound hs whole) (t * segment_bytes b) (segment_bytes b)
           (room t s (segment_bytes b) (ltb-true t s e))
       by false e =
           let from : s ≤ t = ltb-false t s e in
-          ap (take (segment_bytes b)) (put_behind block (s * segment_bytes b) (segment_bytes b) (segment_of b line) segment-length (in_block b s (length block) sound hs whole) (t * segment_bytes b)
+          ap (take (segment_bytes b)) (put_behind block (s * segment_bytes b) (segment_bytes b) (segment_of b line) segment_length (in_block b s (length block) sound hs whole) (t * segment_bytes b)
           (room s t (segment_bytes b) (omega arith)))
 
   pub stored_behind : (s : ℕ) → s ≤ 24 → drop b.size (stored_of b line s block) ≡ drop b.size block
   unfolding stored_of
   stored_behind s h =
-      put_behind block (s * segment_bytes b) (segment_bytes b) (segment_of b line) segment-length (in_block b s (length block) sound h whole) b.size
+      put_behind block (s * segment_bytes b) (segment_bytes b) (segment_of b line) segment_length (in_block b s (length block) sound h whole) b.size
       (in_block b s b.size sound h (omega arith))
 
 -- ---- the whole block out of its segments

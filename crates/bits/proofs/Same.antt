@@ -40,16 +40,16 @@ unfoldable pub still : List ℕ → ℕ → List ℕ → ℕ → ℕ → ℕ →
 still a from b at n i = same (take (n - i) (drop (from + i) a)) (take (n - i) (drop (at + i) b))
 
 module _ (a : List ℕ) (from : ℕ) (b : List ℕ) (at n : ℕ) where
-  pub still-first : same (stretch a from n) (stretch b at n) ≡ still a from b at n 0
+  pub still_first : same (stretch a from n) (stretch b at n) ≡ still a from b at n 0
   unfolding still stretch
-  still-first =
+  still_first =
       let e : n ≡ n - 0 = omega arith in
       ap (λ (k : ℕ). same (take k (drop from a)) (take k (drop at b))) e
       ∙ ap₂ (λ (p q : ℕ). same (take (n - 0) (drop p a)) (take (n - 0) (drop q b))) (sym (add-zero from)) (sym (add-zero at))
 
-  pub still-end : (i : ℕ) → i ≡ n → still a from b at n i ≡ true
+  pub still_end : (i : ℕ) → i ≡ n → still a from b at n i ≡ true
   unfolding still same
-  still-end i e = let z : n - i ≡ 0 = omega arith in ap (λ (k : ℕ). same (take k (drop (from + i) a)) (take k (drop (at + i) b))) z
+  still_end i e = let z : n - i ≡ 0 = omega arith in ap (λ (k : ℕ). same (take k (drop (from + i) a)) (take k (drop (at + i) b))) z
 
   next : (l : List ℕ) (p i : ℕ) → i < n → p + n ≤ length l → take (n - i) (drop (p + i) l) ≡ get_or l (p + i) 0 ∷ take (n - (i + 1)) (drop (p + (i + 1)) l)
   next l p i h fits =
@@ -58,13 +58,13 @@ module _ (a : List ℕ) (from : ℕ) (b : List ℕ) (at n : ℕ) where
       ap₂ (λ (k : ℕ) (r : List ℕ). take k r) e (drop-cons l (p + i) 0 (omega arith))
       ∙ ap (λ (k : ℕ). get_or l (p + i) 0 ∷ take (n - (i + 1)) (drop k l)) s
 
-  still-turn : (i : ℕ) → i < n → from + n ≤ length a → at + n ≤ length b
+  still_turn : (i : ℕ) → i < n → from + n ≤ length a → at + n ≤ length b
       → still a from b at n i ≡ (eqb (get_or a (from + i) 0) (get_or b (at + i) 0) && still a from b at n (i + 1))
   unfolding still same
-  still-turn i h fa fb = ap₂ same (next a from i h fa) (next b at i h fb)
+  still_turn i h fa fb = ap₂ same (next a from i h fa) (next b at i h fb)
 
-  pub still-differs : (i : ℕ) → i < n → from + n ≤ length a → at + n ≤ length b → (get_or a (from + i) 0 ≡ get_or b (at + i) 0 → ⊥) → still a from b at n i ≡ false
-  still-differs i h fa fb ne = still-turn i h fa fb ∙ ap (λ (t : Bool). t && still a from b at n (i + 1)) (ne_eqb (get_or a (from + i) 0) (get_or b (at + i) 0) ne)
+  pub still_differs : (i : ℕ) → i < n → from + n ≤ length a → at + n ≤ length b → (get_or a (from + i) 0 ≡ get_or b (at + i) 0 → ⊥) → still a from b at n i ≡ false
+  still_differs i h fa fb ne = still_turn i h fa fb ∙ ap (λ (t : Bool). t && still a from b at n (i + 1)) (ne_eqb (get_or a (from + i) 0) (get_or b (at + i) 0) ne)
 
-  pub still-again : (i : ℕ) → i < n → from + n ≤ length a → at + n ≤ length b → get_or a (from + i) 0 ≡ get_or b (at + i) 0 → still a from b at n i ≡ still a from b at n (i + 1)
-  still-again i h fa fb e = still-turn i h fa fb ∙ ap (λ (t : Bool). t && still a from b at n (i + 1)) (eq-eqb (get_or a (from + i) 0) (get_or b (at + i) 0) e)
+  pub still_again : (i : ℕ) → i < n → from + n ≤ length a → at + n ≤ length b → get_or a (from + i) 0 ≡ get_or b (at + i) 0 → still a from b at n i ≡ still a from b at n (i + 1)
+  still_again i h fa fb e = still_turn i h fa fb ∙ ap (λ (t : Bool). t && still a from b at n (i + 1)) (eq-eqb (get_or a (from + i) 0) (get_or b (at + i) 0) e)

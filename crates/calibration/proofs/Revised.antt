@@ -19,7 +19,7 @@ use Rattle.calibration.specs.declared.Levels.{Levels}
 use Rattle.calibration.specs.declared.Level.{Level}
 use Rattle.calibration.specs.declared.Level.TheVariants as level
 use Rattle.calibration.specs.declared.LevelF64.{LevelF64}
-use Rattle.calibration.specs.declared.LevelF64.TheVariants as level-f64
+use Rattle.calibration.specs.declared.LevelF64.TheVariants as level_f64
 use Rattle.calibration.specs.Tables.{level_at, level_refusal, level_revision, level_values, leveled, level_answer, level_f64_values, leveled_f64, level_f64_answer}
 
 module _ (t : Levels) (f : ℕ) (a : Assembly) (block : List ℕ) (c n : ℕ) where
@@ -36,8 +36,8 @@ module _ (t : Levels) (f : ℕ) (a : Assembly) (block : List ℕ) (c n : ℕ) wh
       let past = unrefused level.Refused (level_refusal t f a.marks c n (length block)) (leveled (level_at t block c n, level_revision a)) (leveled (x, v)) (λ j d. let z : ◌≡◌ {A = ℕ} 0 1 = cc in let w : ⊥ = omega arith in w) e in
       served past.0 ∙ ap (λ (l : Level). revised.Is (level_values l).1) past.1
 
-  pub level-f64-revision : (x : Ieee.Float) (v : ℕ) → level_f64_answer t f a block c n ≡ leveled_f64 (x, v) → revision_answer f a calibration2 block ≡ revised.Is v
+  pub level_f64_revision : (x : Ieee.Float) (v : ℕ) → level_f64_answer t f a block c n ≡ leveled_f64 (x, v) → revision_answer f a calibration2 block ≡ revised.Is v
   unfolding level_f64_answer
-  level-f64-revision x v e =
-      let past = unrefused level-f64.Refused (level_refusal t f a.marks c n (length block)) (leveled_f64 (value_of (level_at t block c n), level_revision a)) (leveled_f64 (x, v)) (λ j d. let z : ◌≡◌ {A = ℕ} 0 1 = cc in let w : ⊥ = omega arith in w) e in
+  level_f64_revision x v e =
+      let past = unrefused level_f64.Refused (level_refusal t f a.marks c n (length block)) (leveled_f64 (value_of (level_at t block c n), level_revision a)) (leveled_f64 (x, v)) (λ j d. let z : ◌≡◌ {A = ℕ} 0 1 = cc in let w : ⊥ = omega arith in w) e in
       served past.0 ∙ ap (λ (l : LevelF64). revised.Is (level_f64_values l).1) past.1

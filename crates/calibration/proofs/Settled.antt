@@ -5,7 +5,7 @@ use mathlib.Core.Path.{◌≡◌, refl, ap, ◌∙◌}
 use Prim.Native.Nat.{ℕ}
 use native.Mathlib.Omega.{arith}
 use lib.Ieee as Ieee
-use Rattle.refusals.proofs.Says.{Kind, Says, says_is, says-carried}
+use Rattle.refusals.proofs.Says.{Kind, Says, says_is, says_carried}
 use Rattle.numbers.specs.declared.R.{R}
 use Rattle.numbers.specs.declared.Real.{Real}
 use Rattle.numbers.specs.declared.Real.TheVariants as real
@@ -20,17 +20,17 @@ use Rattle.calibration.specs.declared.Levels.{Levels}
 use Rattle.calibration.specs.declared.Level.{Level}
 use Rattle.calibration.specs.declared.Level.TheVariants as level
 use Rattle.calibration.specs.declared.LevelF64.{LevelF64}
-use Rattle.calibration.specs.declared.LevelF64.TheVariants as level-f64
+use Rattle.calibration.specs.declared.LevelF64.TheVariants as level_f64
 use Rattle.calibration.specs.Tables.{level_number, level_values, leveled, level_answer, LevelOk, level_f64_number, level_f64_values, leveled_f64, level_f64_answer, LevelF64Ok}
 
 -- ---- a level
 
 pub levels : Kind level.Refused leveled level_number level_values (zero_real, 0)
 levels = record {
-  number-refused = λ n. refl;
-  number-given = λ v. refl;
-  value-refused = λ n. refl;
-  value-given = λ v. refl;
+  number_refused = λ n. refl;
+  number_given = λ v. refl;
+  value_refused = λ n. refl;
+  value_given = λ v. refl;
   apart = λ v e. let z : ◌≡◌ {A = ℕ} 0 1 = cc in let w : ⊥ = omega arith in w;
   either = each;
 }
@@ -46,39 +46,39 @@ with_revision v (real.Refused k) = level.Refused k
 
 pub says_level : (v w k : ℕ) (x : R) (a : Real) (r : Level) → w ≡ v → Says reals k x a → r ≡ with_revision w a → Says levels k (x, v) r
 says_level v w k x a r own s e =
-    says-carried reals levels (with_revision v) (λ (y : R). (y, v)) (λ n. refl) (λ y. refl) k x a r s (e ∙ ap (λ (u : ℕ). with_revision u a) own)
+    says_carried reals levels (with_revision v) (λ (y : R). (y, v)) (λ n. refl) (λ y. refl) k x a r s (e ∙ ap (λ (u : ℕ). with_revision u a) own)
 
 -- ---- the same in f64
 
-pub levels_f64 : Kind level-f64.Refused leveled_f64 level_f64_number level_f64_values (zero_float, 0)
+pub levels_f64 : Kind level_f64.Refused leveled_f64 level_f64_number level_f64_values (zero_float, 0)
 levels_f64 = record {
-  number-refused = λ n. refl;
-  number-given = λ v. refl;
-  value-refused = λ n. refl;
-  value-given = λ v. refl;
+  number_refused = λ n. refl;
+  number_given = λ v. refl;
+  value_refused = λ n. refl;
+  value_given = λ v. refl;
   apart = λ v e. let z : ◌≡◌ {A = ℕ} 0 1 = cc in let w : ⊥ = omega arith in w;
   either = each;
 }
   where
-    each : (P : LevelF64 → Type 0) → ((n : ℕ) → P (level-f64.Refused n)) → ((v : Ieee.Float × ℕ) → P (leveled_f64 v)) → (r : LevelF64) → P r
-    each P p q (level-f64.Is v) = q (v.value, v.revision)
-    each P p q (level-f64.Refused n) = p n
+    each : (P : LevelF64 → Type 0) → ((n : ℕ) → P (level_f64.Refused n)) → ((v : Ieee.Float × ℕ) → P (leveled_f64 v)) → (r : LevelF64) → P r
+    each P p q (level_f64.Is v) = q (v.value, v.revision)
+    each P p q (level_f64.Refused n) = p n
 
 abbrev pub with_revision_f64 : ℕ → Float → LevelF64
 with_revision_f64 v (float.Is x) = leveled_f64 (x, v)
-with_revision_f64 v (float.Refused k) = level-f64.Refused k
+with_revision_f64 v (float.Refused k) = level_f64.Refused k
 
 pub says_level_f64 : (v w k : ℕ) (x : Ieee.Float) (a : Float) (r : LevelF64) → w ≡ v → Says floats k x a → r ≡ with_revision_f64 w a → Says levels_f64 k (x, v) r
 says_level_f64 v w k x a r own s e =
-    says-carried floats levels_f64 (with_revision_f64 v) (λ (y : Ieee.Float). (y, v)) (λ n. refl) (λ y. refl) k x a r s (e ∙ ap (λ (u : ℕ). with_revision_f64 u a) own)
+    says_carried floats levels_f64 (with_revision_f64 v) (λ (y : Ieee.Float). (y, v)) (λ n. refl) (λ y. refl) k x a r s (e ∙ ap (λ (u : ℕ). with_revision_f64 u a) own)
 
 -- ---- what the contracts allow
 
 module _ (t : Levels) (f : ℕ) (a : Assembly) (block : List ℕ) (c n : ℕ) where
-  pub level-is : (r : Level) → LevelOk t f a block c n r → r ≡ level_answer t f a block c n
+  pub level_is : (r : Level) → LevelOk t f a block c n r → r ≡ level_answer t f a block c n
   unfolding level_answer
-  level-is r = says_is levels _ _ r
+  level_is r = says_is levels _ _ r
 
-  pub level-f64-is : (r : LevelF64) → LevelF64Ok t f a block c n r → r ≡ level_f64_answer t f a block c n
+  pub level_f64_is : (r : LevelF64) → LevelF64Ok t f a block c n r → r ≡ level_f64_answer t f a block c n
   unfolding level_f64_answer
-  level-f64-is r = says_is levels_f64 _ _ r
+  level_f64_is r = says_is levels_f64 _ _ r

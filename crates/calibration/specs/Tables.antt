@@ -18,7 +18,7 @@ use Rattle.calibration.specs.declared.Levels.{Levels}
 use Rattle.calibration.specs.declared.Level.{Level}
 use Rattle.calibration.specs.declared.Level.TheVariants as level
 use Rattle.calibration.specs.declared.LevelF64.{LevelF64}
-use Rattle.calibration.specs.declared.LevelF64.TheVariants as level-f64
+use Rattle.calibration.specs.declared.LevelF64.TheVariants as level_f64
 
 -- the tables of the four visible and of the four infrared channels: R*4.6 and R*4.3
 abbrev pub albedos : Levels
@@ -84,22 +84,22 @@ LevelOk t f a block c n r =
 -- ---- the same in f64
 
 abbrev pub level_f64_number : LevelF64 → ℕ
-level_f64_number (level-f64.Is v) = 0
-level_f64_number (level-f64.Refused k) = k
+level_f64_number (level_f64.Is v) = 0
+level_f64_number (level_f64.Refused k) = k
 
 abbrev pub level_f64_values : LevelF64 → Ieee.Float × ℕ
-level_f64_values (level-f64.Is v) = (v.value, v.revision)
-level_f64_values (level-f64.Refused k) = (zero_float, 0)
+level_f64_values (level_f64.Is v) = (v.value, v.revision)
+level_f64_values (level_f64.Refused k) = (zero_float, 0)
 
 abbrev pub leveled_f64 : Ieee.Float × ℕ → LevelF64
-leveled_f64 v = level-f64.Is (record { value = v.0; revision = v.1 })
+leveled_f64 v = level_f64.Is (record { value = v.0; revision = v.1 })
 
 unfoldable pub level_f64_answer : Levels → ℕ → Assembly → List ℕ → ℕ → ℕ → LevelF64
-level_f64_answer t f a block c n = answered level-f64.Refused (level_refusal t f a.marks c n (length block)) (leveled_f64 (value_of (level_at t block c n), level_revision a))
+level_f64_answer t f a block c n = answered level_f64.Refused (level_refusal t f a.marks c n (length block)) (leveled_f64 (value_of (level_at t block c n), level_revision a))
 
 -- THE CONTRACT of `albedo_f64` and `temperature_f64`
 abbrev pub LevelF64Ok : Levels → ℕ → Assembly → List ℕ → ℕ → ℕ → LevelF64 → Type 0
 LevelF64Ok t f a block c n r =
     (level_f64_number r ≡ level_refusal t f a.marks c n (length block))
     × (level_f64_values r ≡ kept (level_refusal t f a.marks c n (length block)) (zero_float, 0) (value_of (level_at t block c n), level_revision a))
-    × Genuine level-f64.Refused r
+    × Genuine level_f64.Refused r

@@ -19,8 +19,8 @@ use Rattle.copies.specs.Copies.{segment_of, Placeable, differs, differs_refusal,
 -- ---- the bytes of a segment, in the line and in the block
 
 module _ (b : Block) (line : List ℕ) (s : ℕ) (block : List ℕ) where
-  pub fits-block : Placeable b line s block → s * segment_bytes b + segment_bytes b ≤ length block
-  fits-block h = in_block b s (length block) h.row h.small h.room
+  pub fits_block : Placeable b line s block → s * segment_bytes b + segment_bytes b ≤ length block
+  fits_block h = in_block b s (length block) h.row h.small h.room
 
   pub fits_line : Placeable b line s block → b.first - 1 + segment_bytes b ≤ length line
   fits_line h = in_line b (length line) h.row h.long
@@ -32,17 +32,17 @@ module _ (b : Block) (line : List ℕ) (s : ℕ) (block : List ℕ) where
   unfolding differs_refusal differs segment_of when
   same_bytes e = rw e refl
 
-  pub other-bytes : Compared false → 8 ≡ differs_refusal b line s block
+  pub other_bytes : Compared false → 8 ≡ differs_refusal b line s block
   unfolding differs_refusal differs segment_of when
-  other-bytes e = rw e refl
+  other_bytes e = rw e refl
 
 -- ---- what refuses a segment by what the assembly holds, as the code goes
 
 module _ (n : ℕ) (a : Assembly) (carried : Revisions) (line : List ℕ) (s : ℕ) (block : List ℕ) (k : ℕ) (foreign : k ≡ foreign_refusal n a carried) where
-  pub refused-stored : (d : ℕ) (b : Block) → marked a.marks s ≡ true → d ≡ differs_refusal b line s block → b ≡ block_of n → (r : ℕ) → r ≡ first k d → r ≡ place_refusal n a carried line s block
+  pub refused_stored : (d : ℕ) (b : Block) → marked a.marks s ≡ true → d ≡ differs_refusal b line s block → b ≡ block_of n → (r : ℕ) → r ≡ first k d → r ≡ place_refusal n a carried line s block
   unfolding place_refusal copy_refusal differs_refusal
-  refused-stored d b h e own r told = told ∙ ap₂ first foreign (e ∙ ap (λ (x : Block). when (differs x line s block) 8) own ∙ rw h refl)
+  refused_stored d b h e own r told = told ∙ ap₂ first foreign (e ∙ ap (λ (x : Block). when (differs x line s block) 8) own ∙ rw h refl)
 
-  pub refused-new : marked a.marks s ≡ false → k ≡ place_refusal n a carried line s block
+  pub refused_new : marked a.marks s ≡ false → k ≡ place_refusal n a carried line s block
   unfolding place_refusal copy_refusal when
-  refused-new h = foreign ∙ rw h (sym (first_zero (foreign_refusal n a carried)))
+  refused_new h = foreign ∙ rw h (sym (first_zero (foreign_refusal n a carried)))

@@ -23,12 +23,12 @@ use Rattle.reader_record.specs.Records.{possible_of, phase_of}
 use Rattle.reader_record.specs.declared.State.{State}
 use Rattle.reader_line.specs.declared.Answer.{Answer}
 use Rattle.reader_line.specs.declared.Answer.TheVariants.{More}
-use Rattle.cuts.proofs.Calls.{taken_of, taken-most, taken-least, Quiet}
-use Rattle.cuts.proofs.Cases.{read-cases}
-use Rattle.reader_record.proofs.Checked.{Facts, facts, counts-true-in}
+use Rattle.cuts.proofs.Calls.{taken_of, taken_most, taken_least, Quiet}
+use Rattle.cuts.proofs.Cases.{read_cases}
+use Rattle.reader_record.proofs.Checked.{Facts, facts, counts_true_in}
 use Rattle.cuts.proofs.Demand.{some_window, some_bytes}
 use Rattle.cuts.proofs.Simulates as simulates
-use Rattle.cuts.proofs.Simulates.{seeking-quiet}
+use Rattle.cuts.proofs.Simulates.{seeking_quiet}
 
 taken_same : (c : Call Bench) → taken_by (call_answer c) ≡ taken_of c
 taken_same (more t s n v) = refl
@@ -37,8 +37,8 @@ taken_same (whole t s n v) = refl
 -- no more than the piece has, for every input
 pub takes_most : (f setting : ℕ) (s : State) (p buf : List ℕ) → taken_by (read_answer f setting s p buf) ≤ length p
 takes_most f setting s p buf =
-    read-cases f setting s p buf (λ (a : Answer) (b : List ℕ). taken_by a ≤ length p) (λ n h. omega arith) (λ h e. omega arith)
-    (λ h m l. rw (taken_same (call_of setting s p buf)) (unfold call_of in taken-most (step_of setting) done_of (phase_of s, buf) s.unread_count s.unread p))
+    read_cases f setting s p buf (λ (a : Answer) (b : List ℕ). taken_by a ≤ length p) (λ n h. omega arith) (λ h e. omega arith)
+    (λ h m l. rw (taken_same (call_of setting s p buf)) (unfold call_of in taken_most (step_of setting) done_of (phase_of s, buf) s.unread_count s.unread p))
 
 -- unread bits complete no line
 quiet_state : (setting : ℕ) (s : State) (buf : List ℕ) → possible_of s ≡ true → Quiet (step_of setting) done_of (simulates.line_in line_bytes) (phase_of s, buf) s.unread_count s.unread
@@ -52,23 +52,23 @@ quiet_state setting s buf h = go s.in_line refl
 
     go : (i : Bool) → s.in_line ≡ i
         → Quiet (step_of setting) done_of (simulates.line_in line_bytes) (cond i (within s.position s.register s.waiting) (seeking s.search_count s.search), buf) s.unread_count s.unread
-    go true e = nothing (within s.position s.register s.waiting, buf) s.unread_count s.unread (counts-true-in s e f.counts).1
-    go false e = seeking-quiet 64 (is_tail setting) line_bytes some_window some_bytes s.search_count s.search buf s.unread_count s.unread f.seven
+    go true e = nothing (within s.position s.register s.waiting, buf) s.unread_count s.unread (counts_true_in s e f.counts).1
+    go false e = seeking_quiet 64 (is_tail setting) line_bytes some_window some_bytes s.search_count s.search buf s.unread_count s.unread f.seven
 
 -- a piece that is not empty and not refused gives up at least one byte
 pub takes_one : (f setting : ℕ) (s : State) (p buf : List ℕ) → refusal_of (read_answer f setting s p buf) ≡ 0 → zero < length p → 1 ≤ taken_by (read_answer f setting s p buf)
 takes_one f setting s [] buf = λ e l. absurd (not-suc-le-zero l)
 takes_one f setting s (y ∷ ys) buf =
-    read-cases f setting s (y ∷ ys) buf (λ (a : Answer) (b : List ℕ). refusal_of a ≡ 0 → zero < suc (length ys) → 1 ≤ taken_by a)
+    read_cases f setting s (y ∷ ys) buf (λ (a : Answer) (b : List ℕ). refusal_of a ≡ 0 → zero < suc (length ys) → 1 ≤ taken_by a)
     (λ n h e l. absurd (let z : ⊥ = omega arith in z))
     (λ h e r l. absurd (let z : ⊥ = omega arith in z))
     (λ h m k e l. rw (taken_same (call_of setting s (y ∷ ys) buf))
-    (unfold call_of in taken-least (step_of setting) done_of (simulates.line_in line_bytes) (phase_of s, buf) s.unread_count s.unread y ys (quiet_state setting s buf h)))
+    (unfold call_of in taken_least (step_of setting) done_of (simulates.line_in line_bytes) (phase_of s, buf) s.unread_count s.unread y ys (quiet_state setting s buf h)))
 
 -- an empty piece that is not refused: nothing taken, the record given back as it was
 pub takes_none : (f setting : ℕ) (s : State) (buf : List ℕ) → refusal_of (read_answer f setting s [] buf) ≡ 0 → (read_answer f setting s [] buf ≡ More 0 s) × (read_left f setting s [] buf ≡ buf)
 takes_none f setting s buf =
-    read-cases f setting s [] buf (λ (a : Answer) (b : List ℕ). refusal_of a ≡ 0 → (a ≡ More 0 s) × (b ≡ buf))
+    read_cases f setting s [] buf (λ (a : Answer) (b : List ℕ). refusal_of a ≡ 0 → (a ≡ More 0 s) × (b ≡ buf))
     (λ n h e. absurd (let z : ⊥ = omega arith in z))
     (λ h e r. (refl, refl))
     (λ h m l e. absurd (not-suc-le-zero l))

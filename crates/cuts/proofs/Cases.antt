@@ -23,18 +23,18 @@ module _ (f setting : ℕ) (s : State) (p buf : List ℕ) (P : Answer → List �
     (refused : (n : ℕ) → zero < n → P (Refused n) buf)
     (nothing : possible_of s ≡ true → length p ≡ 0 → P (More 0 s) buf)
     (called : possible_of s ≡ true → 44356 ≤ length buf → zero < length p → P (call_answer (call_of setting s p buf)) (call_left (call_of setting s p buf))) where
-  served-cases : Admitted setting s (length buf) → P (served_answer setting s p buf) (served_left setting s p buf)
+  served_cases : Admitted setting s (length buf) → P (served_answer setting s p buf) (served_left setting s p buf)
   unfolding served_answer served_left
-  served-cases a = go (eqb (length p) 0) refl
+  served_cases a = go (eqb (length p) 0) refl
     where
       go : (c : Bool) → eqb (length p) 0 ≡ c → P (cond c (More 0 s) (call_answer (call_of setting s p buf))) (cond c buf (call_left (call_of setting s p buf)))
       go true e = nothing a.possible (eqb-true (length p) 0 e)
       go false e = called a.possible a.long (let n = eqb-false (length p) 0 e in omega arith)
 
-  pub read-cases : P (read_answer f setting s p buf) (read_left f setting s p buf)
+  pub read_cases : P (read_answer f setting s p buf) (read_left f setting s p buf)
   unfolding read_answer read_left answered kept
-  read-cases = go (read_refusal f setting s (length buf)) refl
+  read_cases = go (read_refusal f setting s (length buf)) refl
     where
       go : (r : ℕ) → read_refusal f setting s (length buf) ≡ r → P (answered Refused r (served_answer setting s p buf)) (kept r buf (served_left setting s p buf))
-      go zero e = served-cases (admitted f setting s (length buf) e)
+      go zero e = served_cases (admitted f setting s (length buf) e)
       go (suc r) e = refused (suc r) (zero-lt-suc r)

@@ -15,7 +15,7 @@ use Rattle.bits.proofs.Digits.{digits_below, no_digits}
 use Rattle.bits.proofs.Below.{below_append}
 use Rattle.bits.proofs.Bytes.{bits_below}
 use Rattle.reader_bits.specs.Call.{Call, more, whole, call}
-use Rattle.cuts.proofs.Calls.{taken_of, Gives, gives-call, taken-least, outs, Quiet, stream, stream-call}
+use Rattle.cuts.proofs.Calls.{taken_of, Gives, gives_call, taken_least, outs, Quiet, stream, stream_call}
 
 module _ {S O : Type 0} (step : S → ℕ → S) (done : S → ℕ → Bool) (out : S → O) (swap : ℕ → S → S) where
   -- the calls from the k-th on, the pieces offered, what is handed out
@@ -29,27 +29,27 @@ module _ {S O : Type 0} (step : S → ℕ → S) (done : S → ℕ → Bool) (ou
 
   module _ (Ok : S → Type 0)
       (ok_step : (s : S) (b : ℕ) → b < 2 → Ok s → Ok (step s b))
-      (ok-swap : (k : ℕ) (s : S) → Ok s → Ok (swap k s))
-      (swap-same : (k : ℕ) (s : S) → Ok s → (bs : List ℕ) → Below 2 bs → outs step done out (swap k s) bs ≡ outs step done out s bs)
+      (ok_swap : (k : ℕ) (s : S) → Ok s → Ok (swap k s))
+      (swap_same : (k : ℕ) (s : S) → Ok s → (bs : List ℕ) → Below 2 bs → outs step done out (swap k s) bs ≡ outs step done out s bs)
       (calm : (s : S) (b : ℕ) → done s b ≡ true → (n v : ℕ) → n ≤ 7 → Quiet step done out (step s b) n v) where
     -- between calls: at most seven unread bits, and they complete nothing
     abbrev pub Rests : S → ℕ → ℕ → Type 0
     Rests s n v = Ok s × (n ≤ 7) × Quiet step done out s n v
 
-    rests-none : (s : S) → Ok s → Rests s 0 0
-    rests-none s o = (o, zero-le, rw (no_digits 0))
+    rests_none : (s : S) → Ok s → Rests s 0 0
+    rests_none s o = (o, zero-le, rw (no_digits 0))
 
-    rests-on : (s : S) (b : ℕ) → b < 2 → done s b ≡ false → Ok s → Ok (step s b)
-    rests-on s b h e o = ok_step s b h o
+    rests_on : (s : S) (b : ℕ) → b < 2 → done s b ≡ false → Ok s → Ok (step s b)
+    rests_on s b h e o = ok_step s b h o
 
-    rests-stop : (s : S) (b : ℕ) → b < 2 → done s b ≡ true → Ok s → (n v : ℕ) → n ≤ 7 → v < 2 ^ n → Rests (step s b) n v
-    rests-stop s b h e o n v l w = (ok_step s b h o, l, calm s b e n v l)
+    rests_stop : (s : S) (b : ℕ) → b < 2 → done s b ≡ true → Ok s → (n v : ℕ) → n ≤ 7 → v < 2 ^ n → Rests (step s b) n v
+    rests_stop s b h e o n v l w = (ok_step s b h o, l, calm s b e n v l)
 
-    rests-swap : (k : ℕ) (s : S) (n v : ℕ) → Rests s n v → Rests (swap k s) n v
-    rests-swap k s n v r = (ok-swap k s r.0, r.1, swap-same k s r.0 (digits n v) (digits_below n v) ∙ r.2)
+    rests_swap : (k : ℕ) (s : S) (n v : ℕ) → Rests s n v → Rests (swap k s) n v
+    rests_swap k s n v r = (ok_swap k s r.0, r.1, swap_same k s r.0 (digits n v) (digits_below n v) ∙ r.2)
 
     abbrev RestsCall : Call S → Type 0
-    RestsCall c = Gives step done Ok Rests Rests rests-on rests-none rests-stop c
+    RestsCall c = Gives step done Ok Rests Rests rests_on rests_none rests_stop c
 
     -- what a call that gives c leaves
     abbrev Leaves : S → ℕ → ℕ → List ℕ → List ℕ → Call S → Type 0
@@ -57,27 +57,27 @@ module _ {S O : Type 0} (step : S → ℕ → S) (done : S → ℕ → Bool) (ou
 
     leaves : (k : ℕ) (s : S) (n v : ℕ) (p rest : List ℕ) (c : Call S) → call step done (swap k s) n v p ≡ c → Rests s n v → Leaves s n v p rest c
     leaves k s n v p rest c e r =
-        let w = rests-swap k s n v r in
+        let w = rests_swap k s n v r in
         let l : n ≤ 8 = omega (arith, r.1) in
         subst (λ (x : Call S). Leaves s n v p rest x) e (
-          gives-call step done Ok Rests Rests rests-on rests-none rests-stop p (swap k s) n v l w.0 w,
-          stream-call step done out (swap k s) n v p (bits_of rest)
+          gives_call step done Ok Rests Rests rests_on rests_none rests_stop p (swap k s) n v l w.0 w,
+          stream_call step done out (swap k s) n v p (bits_of rest)
               ∙ ap (λ (x : List ℕ). outs step done out (swap k s) (digits n v ++ x)) (sym (bits_append p rest))
-              ∙ swap-same k s r.0 (digits n v ++ bits_of (p ++ rest)) (below_append 2 (digits n v) (bits_of (p ++ rest)) (digits_below n v) (bits_below (p ++ rest))),
+              ∙ swap_same k s r.0 (digits n v ++ bits_of (p ++ rest)) (below_append 2 (digits n v) (bits_of (p ++ rest)) (digits_below n v) (bits_below (p ++ rest))),
         )
 
     -- B. However the bytes are cut, what is handed out is what the bits in a row complete
-    pub reads-outs : {k : ℕ} {s : S} {n v : ℕ} {ps : List (List ℕ)} {ls : List O} → Reads k s n v ps ls → Rests s n v
+    pub reads_outs : {k : ℕ} {s : S} {n v : ℕ} {ps : List (List ℕ)} {ls : List O} → Reads k s n v ps ls → Rests s n v
         → ls ≡ outs step done out s (digits n v ++ bits_of (in_arow ps))
-    reads-outs {s = s} {n = n} {v = v} end r = sym (ap (λ (x : List ℕ). outs step done out s (digits n v ++ x)) no_bits ∙ ap (λ (x : List ℕ). outs step done out s x) (append-nil (digits n v)) ∙ r.2)
-    reads-outs (used d) r = reads-outs d r
-    reads-outs {k} {s} {n} {v} (on {p = p} {ps = ps} {t = t} {s' = s'} {n' = n'} {v' = v'} e d) r =
+    reads_outs {s = s} {n = n} {v = v} end r = sym (ap (λ (x : List ℕ). outs step done out s (digits n v ++ x)) no_bits ∙ ap (λ (x : List ℕ). outs step done out s x) (append-nil (digits n v)) ∙ r.2)
+    reads_outs (used d) r = reads_outs d r
+    reads_outs {k} {s} {n} {v} (on {p = p} {ps = ps} {t = t} {s' = s'} {n' = n'} {v' = v'} e d) r =
         let h : Leaves s n v p (in_arow ps) (more t s' n' v') = leaves k s n v p (in_arow ps) (more t s' n' v') e r in
-        reads-outs d h.0 ∙ ap (λ (x : List ℕ). outs step done out s' (digits n' v' ++ x)) (bits_append (drop t p) (in_arow ps)) ∙ h.1
-    reads-outs {k} {s} {n} {v} (got {p = p} {ps = ps} {t = t} {s' = s'} {n' = n'} {v' = v'} e d) r =
+        reads_outs d h.0 ∙ ap (λ (x : List ℕ). outs step done out s' (digits n' v' ++ x)) (bits_append (drop t p) (in_arow ps)) ∙ h.1
+    reads_outs {k} {s} {n} {v} (got {p = p} {ps = ps} {t = t} {s' = s'} {n' = n'} {v' = v'} e d) r =
         let h : Leaves s n v p (in_arow ps) (whole t s' n' v') = leaves k s n v p (in_arow ps) (whole t s' n' v') e r in
         ap (λ (x : List O). out s' ∷ x)
-        (reads-outs d h.0 ∙ ap (λ (x : List ℕ). outs step done out s' (digits n' v' ++ x)) (bits_append (drop t p) (in_arow ps)))
+        (reads_outs d h.0 ∙ ap (λ (x : List ℕ). outs step done out s' (digits n' v' ++ x)) (bits_append (drop t p) (in_arow ps)))
         ∙ h.1
 
     -- there is such a run of calls for every cut: each takes a byte
@@ -87,14 +87,14 @@ module _ {S O : Type 0} (step : S → ℕ → S) (done : S → ℕ → Bool) (ou
     abbrev All : List (List ℕ) → Type 0
     All ps = (k : ℕ) (s : S) (n v : ℕ) → Rests s n v → Some k s n v ps
 
-    some-piece : (m : ℕ) (p : List ℕ) (ps : List (List ℕ)) → length p ≤ m → All ps → All (p ∷ ps)
-    some-piece zero [] ps h a k s n v r = let d = a k s n v r in (d.0, used d.1)
-    some-piece (suc m) [] ps h a k s n v r = let d = a k s n v r in (d.0, used d.1)
-    some-piece zero (y ∷ ys) ps h a k s n v r = absurd (not-suc-le-zero h)
-    some-piece (suc m) (y ∷ ys) ps h a k s n v r =
+    some_piece : (m : ℕ) (p : List ℕ) (ps : List (List ℕ)) → length p ≤ m → All ps → All (p ∷ ps)
+    some_piece zero [] ps h a k s n v r = let d = a k s n v r in (d.0, used d.1)
+    some_piece (suc m) [] ps h a k s n v r = let d = a k s n v r in (d.0, used d.1)
+    some_piece zero (y ∷ ys) ps h a k s n v r = absurd (not-suc-le-zero h)
+    some_piece (suc m) (y ∷ ys) ps h a k s n v r =
         go (call step done (swap k s) n v (y ∷ ys)) refl
-        (taken-least step done out (swap k s) n v y ys (rests-swap k s n v r).2)
-        (λ t d. some-piece m (drop t (y ∷ ys)) ps d a)
+        (taken_least step done out (swap k s) n v y ys (rests_swap k s n v r).2)
+        (λ t d. some_piece m (drop t (y ∷ ys)) ps d a)
       where
         go : (c : Call S) → call step done (swap k s) n v (y ∷ ys) ≡ c → 1 ≤ taken_of c
             → ((t : ℕ) → length (drop t (y ∷ ys)) ≤ m → All (drop t (y ∷ ys) ∷ ps)) → Some k s n v ((y ∷ ys) ∷ ps)
@@ -107,14 +107,14 @@ module _ {S O : Type 0} (step : S → ℕ → S) (done : S → ℕ → Bool) (ou
             let j = i t (omega arith) (suc k) s' n' v' (leaves k s n v (y ∷ ys) [] (whole t s' n' v') e r).0 in
             (out s' ∷ j.0, got e j.1)
 
-    pub reads-some : (ps : List (List ℕ)) → All ps
-    reads-some [] k s n v r = ([], end)
-    reads-some (p ∷ ps) k s n v r = some-piece (length p) p ps (le_refl (length p)) (reads-some ps) k s n v r
+    pub reads_some : (ps : List (List ℕ)) → All ps
+    reads_some [] k s n v r = ([], end)
+    reads_some (p ∷ ps) k s n v r = some_piece (length p) p ps (le_refl (length p)) (reads_some ps) k s n v r
 
     -- exactly that
-    pub reads-iff : (k : ℕ) (s : S) (n v : ℕ) → Rests s n v → (ps : List (List ℕ)) (ls : List O)
+    pub reads_iff : (k : ℕ) (s : S) (n v : ℕ) → Rests s n v → (ps : List (List ℕ)) (ls : List O)
         → Reads k s n v ps ls ↔ (ls ≡ outs step done out s (digits n v ++ bits_of (in_arow ps)))
-    reads-iff k s n v r ps ls = (
-      λ d. reads-outs d r,
-      λ e. let d = reads-some ps k s n v r in subst (λ (x : List O). Reads k s n v ps x) (reads-outs d.1 r ∙ sym e) d.1,
+    reads_iff k s n v r ps ls = (
+      λ d. reads_outs d r,
+      λ e. let d = reads_some ps k s n v r in subst (λ (x : List O). Reads k s n v ps x) (reads_outs d.1 r ∙ sym e) d.1,
     )

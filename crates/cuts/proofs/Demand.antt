@@ -26,7 +26,7 @@ use Rattle.reader_line.specs.declared.Answer.TheVariants.{More, Line}
 use Rattle.cuts.proofs.Cuts as cuts
 use Rattle.cuts.proofs.Reached.{Good, LeftBy, fresh_good, left_call, answers, buffers}
 use Rattle.cuts.proofs.Simulates as simulates
-use Rattle.cuts.proofs.Simulates.{lent_to, swap, room-lent, reads_lines}
+use Rattle.cuts.proofs.Simulates.{lent_to, swap, room_lent, reads_lines}
 
 pub some_window : zero < 64
 some_window = zero-lt-suc 63
@@ -44,12 +44,12 @@ module _ (f : ℕ) (format : Format) (ok : format_of f ≡ Is format) (setting :
   Reads k s n v ps ls = cuts.Reads (step_of setting) done_of (simulates.line_in line_bytes) (swap lend) k s n v ps ls
 
   pub room : (k : ℕ) (g : Phase) (buf : List ℕ) → 44356 ≤ length buf → 44356 ≤ length (lent_to lend k g buf)
-  room k g buf m = room-lent 64 (is_tail setting) line_bytes some_window some_bytes lend long k g buf m
+  room k g buf m = room_lent 64 (is_tail setting) line_bytes some_window some_bytes lend long k g buf m
 
   -- the public call with the buffer that is lent to it
-  pub answer-lent : (k : ℕ) (g : Phase) (n v : ℕ) (p buf : List ℕ) → Good g n v → 44356 ≤ length buf
+  pub answer_lent : (k : ℕ) (g : Phase) (n v : ℕ) (p buf : List ℕ) → Good g n v → 44356 ≤ length buf
       → read_answer f setting (state_of g n v) p (lent_for lend k (state_of g n v) buf) ≡ call_answer (call (step_of setting) done_of (g, lent_to lend k g buf) n v p)
-  answer-lent k g n v p buf h m =
+  answer_lent k g n v p buf h m =
       ap (λ (x : List ℕ). read_answer f setting (state_of g n v) p x) (lent_same lend k g n v buf)
       ∙ answers f format ok setting small g n v p (lent_to lend k g buf) h (room k g buf m)
 
@@ -59,22 +59,22 @@ module _ (f : ℕ) (format : Format) (ok : format_of f ≡ Is format) (setting :
       ap (λ (x : List ℕ). read_left f setting (state_of g n v) p x) (lent_same lend k g n v buf)
       ∙ buffers f format ok setting small g n v p (lent_to lend k g buf) h (room k g buf m)
 
-  from-reads : {k : ℕ} {s : Bench} {n v : ℕ} {ps ls : List (List ℕ)} → Reads k s n v ps ls → Good s.0 n v → 44356 ≤ length s.1
+  from_reads : {k : ℕ} {s : Bench} {n v : ℕ} {ps ls : List (List ℕ)} → Reads k s n v ps ls → Good s.0 n v → 44356 ≤ length s.1
       → Driven f setting lend k (state_of s.0 n v) s.1 ps ls
-  from-reads cuts.Reads.end g m = driven.Driven.end
-  from-reads (cuts.Reads.used r) g m = driven.Driven.used (from-reads r g m)
-  from-reads {k} {s} {n} {v} (cuts.Reads.on {p = p} {ps = ps} {ls = ls} {t = t} {s' = s'} {n' = n'} {v' = v'} e r) g m =
+  from_reads cuts.Reads.end g m = driven.Driven.end
+  from_reads (cuts.Reads.used r) g m = driven.Driven.used (from_reads r g m)
+  from_reads {k} {s} {n} {v} (cuts.Reads.on {p = p} {ps = ps} {ls = ls} {t = t} {s' = s'} {n' = n'} {v' = v'} e r) g m =
       let l : LeftBy setting (more t s' n' v') = subst (LeftBy setting) e (left_call setting p s.0 (lent_to lend k s.0 s.1) n v g (room k s.0 s.1 m)) in
-      driven.Driven.on (answer-lent k s.0 n v p s.1 g m ∙ ap call_answer e)
+      driven.Driven.on (answer_lent k s.0 n v p s.1 g m ∙ ap call_answer e)
       (subst (λ (x : List ℕ). Driven f setting lend (suc k) (state_of s'.0 n' v') x (drop t p ∷ ps) ls) (sym (buffer_lent k s.0 n v p s.1 g m ∙ ap call_left e))
-      (from-reads r l.0 l.1))
-  from-reads {k} {s} {n} {v} (cuts.Reads.got {p = p} {ps = ps} {ls = ls} {t = t} {s' = s'} {n' = n'} {v' = v'} e r) g m =
+      (from_reads r l.0 l.1))
+  from_reads {k} {s} {n} {v} (cuts.Reads.got {p = p} {ps = ps} {ls = ls} {t = t} {s' = s'} {n' = n'} {v' = v'} e r) g m =
       let l : LeftBy setting (whole t s' n' v') = subst (LeftBy setting) e (left_call setting p s.0 (lent_to lend k s.0 s.1) n v g (room k s.0 s.1 m)) in
       let st : State = state_of s.0 n v in
       let q : s'.1 ≡ read_left f setting st p (lent_for lend k st s.1) = sym (buffer_lent k s.0 n v p s.1 g m ∙ ap call_left e) in
-      let a : read_answer f setting st p (lent_for lend k st s.1) ≡ Line t (state_of s'.0 n' v') = answer-lent k s.0 n v p s.1 g m ∙ ap call_answer e in
+      let a : read_answer f setting st p (lent_for lend k st s.1) ≡ Line t (state_of s'.0 n' v') = answer_lent k s.0 n v p s.1 g m ∙ ap call_answer e in
       subst (λ (x : List ℕ). Driven f setting lend k st s.1 (p ∷ ps) (x ∷ ls)) (line_at q)
-      (driven.Driven.got a (subst (λ (x : List ℕ). Driven f setting lend (suc k) (state_of s'.0 n' v') x (drop t p ∷ ps) ls) q (from-reads r l.0 l.1)))
+      (driven.Driven.got a (subst (λ (x : List ℕ). Driven f setting lend (suc k) (state_of s'.0 n' v') x (drop t p ∷ ps) ls) q (from_reads r l.0 l.1)))
     where
       line_at : {x y : List ℕ} → x ≡ y → line_in y ≡ bits_of (take line_bytes x)
       line_at q = unfold line_in in ap (λ (z : List ℕ). bits_of (take line_bytes z)) (sym q)
@@ -85,7 +85,7 @@ module _ (f : ℕ) (format : Format) (ok : format_of f ≡ Is format) (setting :
   to_reads (driven.Driven.used r) g n v i h m = cuts.Reads.used (to_reads r g n v i h m)
   to_reads {k} {s} {buf} (driven.Driven.on {p = p} {ps = ps} {ls = ls} {t = t} {s' = s'} e r) g n v i h m =
       go (call (step_of setting) done_of (g, lent_to lend k g buf) n v p) refl (left_call setting p g (lent_to lend k g buf) n v h (room k g buf m))
-      (sym (answer-lent k g n v p buf h m) ∙ ap (λ (x : State). read_answer f setting x p (lent_for lend k x buf)) (sym i) ∙ e)
+      (sym (answer_lent k g n v p buf h m) ∙ ap (λ (x : State). read_answer f setting x p (lent_for lend k x buf)) (sym i) ∙ e)
       (ap (λ (x : State). read_left f setting x p (lent_for lend k x buf)) i ∙ buffer_lent k g n v p buf h m)
       (λ g' n' v' i' h' m'. to_reads r g' n' v' i' h' m')
     where
@@ -102,7 +102,7 @@ module _ (f : ℕ) (format : Format) (ok : format_of f ≡ Is format) (setting :
       go (whole t' b n' v') d q a w j = let z : ◌≡◌ {A = ℕ} 0 1 = cc in absurd (omega arith)
   to_reads {k} {s} {buf} (driven.Driven.got {p = p} {ps = ps} {ls = ls} {t = t} {s' = s'} e r) g n v i h m =
       go (call (step_of setting) done_of (g, lent_to lend k g buf) n v p) refl (left_call setting p g (lent_to lend k g buf) n v h (room k g buf m))
-      (sym (answer-lent k g n v p buf h m) ∙ ap (λ (x : State). read_answer f setting x p (lent_for lend k x buf)) (sym i) ∙ e)
+      (sym (answer_lent k g n v p buf h m) ∙ ap (λ (x : State). read_answer f setting x p (lent_for lend k x buf)) (sym i) ∙ e)
       (ap (λ (x : State). read_left f setting x p (lent_for lend k x buf)) i ∙ buffer_lent k g n v p buf h m)
       (λ g' n' v' i' h' m'. to_reads r g' n' v' i' h' m')
     where
@@ -126,25 +126,25 @@ module _ (f : ℕ) (format : Format) (ok : format_of f ≡ Is format) (setting :
   -- caller likes; each call given the record that the last one left, each unread rest offered again. However the recording
   -- is cut into pieces, the lines handed out are exactly those of the plain definition in the uncut recording, in that
   -- order, an unfinished last one never
-  pub demand-3 : (buf : List ℕ) → 44356 ≤ length buf → (ps ls : List (List ℕ)) → Driven f setting lend 0 fresh_state buf ps ls ↔ (ls ≡ recorded setting (in_arow ps))
+  pub demand_3 : (buf : List ℕ) → 44356 ≤ length buf → (ps ls : List (List ℕ)) → Driven f setting lend 0 fresh_state buf ps ls ↔ (ls ≡ recorded setting (in_arow ps))
   unfolding recorded lines
-  demand-3 buf m ps ls =
+  demand_3 buf m ps ls =
       let i = reads_lines 64 (is_tail setting) line_bytes some_window some_bytes lend long buf m ps ls in (
         λ d. i.0 (to_reads d (seeking 0 0) 0 0 refl fresh_good m),
-        λ e. from-reads (i.1 e) fresh_good m,
+        λ e. from_reads (i.1 e) fresh_good m,
       )
 
   -- THE CALLS END: for every cut there is such a run, to the end of the last piece
-  pub driven-ends : (buf : List ℕ) → 44356 ≤ length buf → (ps : List (List ℕ)) → Driven f setting lend 0 fresh_state buf ps (recorded setting (in_arow ps))
-  driven-ends buf m ps = (demand-3 buf m ps (recorded setting (in_arow ps))).1 refl
+  pub driven_ends : (buf : List ℕ) → 44356 ≤ length buf → (ps : List (List ℕ)) → Driven f setting lend 0 fresh_state buf ps (recorded setting (in_arow ps))
+  driven_ends buf m ps = (demand_3 buf m ps (recorded setting (in_arow ps))).1 refl
 
 -- the same with one buffer in all calls
 pub demand_3_one : (f : ℕ) (format : Format) → format_of f ≡ Is format → (setting : ℕ) → setting ≤ largest_setting → (buf : List ℕ) → 44356 ≤ length buf → (ps ls : List (List ℕ))
     → Driven f setting one_buffer 0 fresh_state buf ps ls ↔ (ls ≡ recorded setting (in_arow ps))
-demand_3_one f format ok setting small buf m ps ls = demand-3 f format ok setting small one_buffer (λ k b h. h) buf m ps ls
+demand_3_one f format ok setting small buf m ps ls = demand_3 f format ok setting small one_buffer (λ k b h. h) buf m ps ls
 
 -- and with another buffer for each call that finds the reader between lines
 pub demand_3_others : (f : ℕ) (format : Format) → format_of f ≡ Is format → (setting : ℕ) → setting ≤ largest_setting → (bufs : ℕ → List ℕ) → ((k : ℕ) → 44356 ≤ length (bufs k))
     → (buf : List ℕ) → 44356 ≤ length buf → (ps ls : List (List ℕ))
     → Driven f setting (λ k b. bufs k) 0 fresh_state buf ps ls ↔ (ls ≡ recorded setting (in_arow ps))
-demand_3_others f format ok setting small bufs h buf m ps ls = demand-3 f format ok setting small (λ k b. bufs k) (λ k b l. h k) buf m ps ls
+demand_3_others f format ok setting small bufs h buf m ps ls = demand_3 f format ok setting small (λ k b. bufs k) (λ k b l. h k) buf m ps ls

@@ -16,7 +16,7 @@ use Rattle.scramble.specs.Sync.{fifteen_ones}
 use Rattle.scramble.specs.Wire.{plain_bit}
 use Rattle.reader_bits.specs.Call.{Call, more, whole}
 use Rattle.reader_bits.specs.Lines.{is_tail}
-use Rattle.reader_bits.specs.Phase.{Phase, seeking, within, phaseNext, buffer_next, completes, Bench}
+use Rattle.reader_bits.specs.Phase.{Phase, seeking, within, phase_next, buffer_next, completes, Bench}
 use Rattle.reader_bits.specs.Loops.{step_of, done_of}
 use Rattle.reader.specs.Read.{call_of, read_answer, read_left}
 use Rattle.reader_line.specs.Answers.{call_answer, call_left}
@@ -24,9 +24,9 @@ use Rattle.reader_record.specs.Records.{possible_of, phase_of, state_of}
 use Rattle.reader_record.specs.declared.State.{State}
 use Rattle.reader_line.specs.declared.Answer.{Answer}
 use Rattle.reader_line.specs.declared.Answer.TheVariants.{Refused, More, Line}
-use Rattle.cuts.proofs.Calls.{Gives, gives-call}
-use Rattle.cuts.proofs.Cases.{read-cases}
-use Rattle.reader_record.proofs.Checked.{Facts, facts, counts-true-in}
+use Rattle.cuts.proofs.Calls.{Gives, gives_call}
+use Rattle.cuts.proofs.Cases.{read_cases}
+use Rattle.reader_record.proofs.Checked.{Facts, facts, counts_true_in}
 use Rattle.cuts.proofs.Reached.{Fit, fit_next}
 use Rattle.cuts.proofs.Stands.{after_line}
 
@@ -58,8 +58,8 @@ module _ (was : List ℕ) where
   abbrev pub Ended : Bench → ℕ → ℕ → Type 0
   Ended s n v = (s.0 ≡ seeking 0 0) × (drop 44356 s.1 ≡ drop 44356 was)
 
-  kept_on : (setting : ℕ) (g : Phase) (buf : List ℕ) (b : ℕ) → completes line_bytes g b ≡ false → Kept g buf → Kept (phaseNext 64 (is_tail setting) line_bytes g b) (buffer_next g b buf)
-  unfolding completes phaseNext buffer_next
+  kept_on : (setting : ℕ) (g : Phase) (buf : List ℕ) (b : ℕ) → completes line_bytes g b ≡ false → Kept g buf → Kept (phase_next 64 (is_tail setting) line_bytes g b) (buffer_next g b buf)
+  unfolding completes phase_next buffer_next
   kept_on setting (seeking c w) buf b e h = go (ltb (suc c) 64) (is_tail setting (digits 64 (w * 2 + b)))
     where
       go : (x y : Bool) → Kept (cond x (seeking (suc c) (w * 2 + b)) (cond y (within 0 fifteen_ones 0) (seeking c ((w * 2 + b) % 2 ^ c)))) buf
@@ -71,22 +71,22 @@ module _ (was : List ℕ) where
   pub holds_on : (setting : ℕ) (s : Bench) (b : ℕ) → b < 2 → done_of s b ≡ false → Holds s → Holds (step_of setting s b)
   holds_on setting s b h e i = (fit_next setting s.0 b h i.0, kept_on setting s.0 s.1 b e i.1)
 
-  pub holds-rest : (s : Bench) → Holds s → Used s 0 0
-  holds-rest s i = (i.1, i.0)
+  pub holds_rest : (s : Bench) → Holds s → Used s 0 0
+  holds_rest s i = (i.1, i.0)
 
-  kept-stop : (g : Phase) (buf : List ℕ) (b : ℕ) → completes line_bytes g b ≡ true → Fit g → Kept g buf → drop 44356 (buffer_next g b buf) ≡ drop 44356 was
+  kept_stop : (g : Phase) (buf : List ℕ) (b : ℕ) → completes line_bytes g b ≡ true → Fit g → Kept g buf → drop 44356 (buffer_next g b buf) ≡ drop 44356 was
   unfolding completes buffer_next
-  kept-stop (seeking c w) buf b e f h = absurd (false≢true e)
-  kept-stop (within p r q) buf b e f h =
+  kept_stop (seeking c w) buf b e f h = absurd (false≢true e)
+  kept_stop (within p r q) buf b e f h =
       let l = leb-true 354848 (suc p) e in
       let z : suc p / 8 ≡ 44356 = omega (arith, f.0) in
       rw z at (kept_store p (q * 2 + plain_bit p r b) buf (eqb (p % 8) 7) h refl)
 
-  pub holds-stop : (setting : ℕ) (s : Bench) (b : ℕ) → b < 2 → done_of s b ≡ true → Holds s → (n v : ℕ) → n ≤ 7 → v < 2 ^ n → Ended (step_of setting s b) n v
-  holds-stop setting s b h e i n v l w = (after_line 64 (is_tail setting) line_bytes s.0 b e, kept-stop s.0 s.1 b e i.0 i.1)
+  pub holds_stop : (setting : ℕ) (s : Bench) (b : ℕ) → b < 2 → done_of s b ≡ true → Holds s → (n v : ℕ) → n ≤ 7 → v < 2 ^ n → Ended (step_of setting s b) n v
+  holds_stop setting s b h e i n v l w = (after_line 64 (is_tail setting) line_bytes s.0 b e, kept_stop s.0 s.1 b e i.0 i.1)
 
   abbrev pub Leaves : ℕ → Call Bench → Type 0
-  Leaves setting c = Gives (step_of setting) done_of Holds Used Ended (holds_on setting) holds-rest (holds-stop setting) c
+  Leaves setting c = Gives (step_of setting) done_of Holds Used Ended (holds_on setting) holds_rest (holds_stop setting) c
 
   holds-first : (g : Phase) → Kept g was
   holds-first (seeking c w) = refl
@@ -96,14 +96,14 @@ fit_state : (s : State) → Facts s → Fit (phase_of s)
 fit_state s f = go s.in_line refl
   where
     go : (i : Bool) → s.in_line ≡ i → Fit (cond i (within s.position s.register s.waiting) (seeking s.search_count s.search))
-    go true e = (f.place, f.fifteen, rw (counts-true-in s e f.counts).0 at f.held)
+    go true e = (f.place, f.fifteen, rw (counts_true_in s e f.counts).0 at f.held)
     go false e = (f.count, f.remembered)
 
 leaves_call : (setting : ℕ) (s : State) (p buf : List ℕ) → possible_of s ≡ true → Leaves buf setting (call_of setting s p buf)
 unfolding call_of
 leaves_call setting s p buf h =
     let f = facts s h in
-    gives-call (step_of setting) done_of (Holds buf) (Used buf) (Ended buf) (holds_on buf setting) (holds-rest buf) (holds-stop buf setting) p (phase_of s, buf)
+    gives_call (step_of setting) done_of (Holds buf) (Used buf) (Ended buf) (holds_on buf setting) (holds_rest buf) (holds_stop buf setting) p (phase_of s, buf)
     s.unread_count s.unread (omega (arith, f.seven)) (fit_state s f, holds-first buf (phase_of s)) (holds-first buf (phase_of s), fit_state s f)
 
 -- ---- of the public call
@@ -118,7 +118,7 @@ KeepsBy s buf (Line t s') after = (s'.in_line ≡ false) × (drop 44356 after �
 -- FOR EVERY INPUT: a refusal leaves the buffer as it was; so does a call that ends between lines without a line; one that
 -- ends in a line has changed only bytes whose eight bits are in; a line complete leaves the bytes past it
 pub keeps : (f setting : ℕ) (s : State) (p buf : List ℕ) → KeepsBy s buf (read_answer f setting s p buf) (read_left f setting s p buf)
-keeps f setting s p buf = read-cases f setting s p buf (KeepsBy s buf) (λ n h. refl) (λ h e. (λ i. refl, λ i. refl)) (λ h m l. go (call_of setting s p buf) (leaves_call setting s p buf h))
+keeps f setting s p buf = read_cases f setting s p buf (KeepsBy s buf) (λ n h. refl) (λ h e. (λ i. refl, λ i. refl)) (λ h m l. go (call_of setting s p buf) (leaves_call setting s p buf h))
   where
     used : (g : Phase) (n v t : ℕ) (after : List ℕ) → Kept buf g after → KeepsBy s buf (More t (state_of g n v)) after
     used (seeking c w) n v t after k = (λ i. k, λ i. absurd (false≢true i))
@@ -134,7 +134,7 @@ keeps f setting s p buf = read-cases f setting s p buf (KeepsBy s buf) (λ n h. 
 -- FOR EVERY INPUT: a buffer keeps its bytes past the line
 pub past_keeps : (f setting : ℕ) (s : State) (p buf : List ℕ) → drop 44356 (read_left f setting s p buf) ≡ drop 44356 buf
 past_keeps f setting s p buf =
-    read-cases f setting s p buf (λ (a : Answer) (b : List ℕ). drop 44356 b ≡ drop 44356 buf) (λ n h. refl) (λ h e. refl)
+    read_cases f setting s p buf (λ (a : Answer) (b : List ℕ). drop 44356 b ≡ drop 44356 buf) (λ n h. refl) (λ h e. refl)
     (λ h m l. go (call_of setting s p buf) (leaves_call setting s p buf h))
   where
     used : (g : Phase) (after : List ℕ) → Kept buf g after → Fit g → drop 44356 after ≡ drop 44356 buf

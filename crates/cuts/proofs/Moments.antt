@@ -31,13 +31,13 @@ use Rattle.reader_line.specs.declared.Answer.TheVariants.{More, Line}
 use Rattle.cuts.proofs.Auto as auto
 use Rattle.cuts.proofs.Auto.{Auto, seek}
 use Rattle.cuts.proofs.Calls.{outs, after}
-use Rattle.cuts.proofs.Demand.{some_window, some_bytes, room, answer-lent, buffer_lent}
+use Rattle.cuts.proofs.Demand.{some_window, some_bytes, room, answer_lent, buffer_lent}
 use Rattle.cuts.proofs.Keeps.{refused_stays}
-use Rattle.cuts.proofs.Onward.{OnwardBy, onward-call}
+use Rattle.cuts.proofs.Onward.{OnwardBy, onward_call}
 use Rattle.cuts.proofs.Reached.{Good, LeftBy, fresh_good, left_call}
 use Rattle.cuts.proofs.Simulates as simulates
-use Rattle.cuts.proofs.Simulates.{lent_to, StandsFor, outs-found, stands-lent, seeking-quiet}
-use Rattle.cuts.proofs.Stands.{buffer_length, fresh-search, stands-next}
+use Rattle.cuts.proofs.Simulates.{lent_to, StandsFor, outs_found, stands_lent, seeking_quiet}
+use Rattle.cuts.proofs.Stands.{buffer_length, fresh_search, stands_next}
 
 -- ---- lists
 
@@ -85,27 +85,27 @@ module _ (setting : ℕ) where
   abbrev found : Auto → List ℕ → List (List ℕ)
   found q bs = auto.found 64 (is_tail setting) information_bits line_of q bs
 
-  abbrev runA : Auto → List ℕ → Auto
-  runA q bs = auto.runA 64 (is_tail setting) information_bits line_of q bs
+  abbrev run_a : Auto → List ℕ → Auto
+  run_a q bs = auto.run_a 64 (is_tail setting) information_bits line_of q bs
 
   abbrev StandsNow : Bench → Auto → Type 0
   StandsNow s q = StandsFor 64 (is_tail setting) line_bytes some_window some_bytes s q
 
-  abbrev outsNow : Bench → List ℕ → List (List ℕ)
-  outsNow s bs = outs (step_of setting) done_of (simulates.line_in line_bytes) s bs
+  abbrev outs_now : Bench → List ℕ → List (List ℕ)
+  outs_now s bs = outs (step_of setting) done_of (simulates.line_in line_bytes) s bs
 
-  abbrev afterNow : Bench → List ℕ → Bench
-  afterNow s bs = after (step_of setting) done_of (simulates.line_in line_bytes) s bs
+  abbrev after_now : Bench → List ℕ → Bench
+  after_now s bs = after (step_of setting) done_of (simulates.line_in line_bytes) s bs
 
-  run-append : (xs ys : List ℕ) (q : Auto) → runA q (xs ++ ys) ≡ runA (runA q xs) ys
+  run-append : (xs ys : List ℕ) (q : Auto) → run_a q (xs ++ ys) ≡ run_a (run_a q xs) ys
   run-append [] ys q = refl
-  run-append (x ∷ xs) ys q = run-append xs ys (auto.stepA 64 (is_tail setting) information_bits line_of q x)
+  run-append (x ∷ xs) ys q = run-append xs ys (auto.step_a 64 (is_tail setting) information_bits line_of q x)
 
-  stands_after : (bs : List ℕ) (s : Bench) (q : Auto) → Below 2 bs → 44356 ≤ length s.1 → StandsNow s q → StandsNow (afterNow s bs) (runA q bs)
+  stands_after : (bs : List ℕ) (s : Bench) (q : Auto) → Below 2 bs → 44356 ≤ length s.1 → StandsNow s q → StandsNow (after_now s bs) (run_a q bs)
   stands_after [] s q i m h = h
   stands_after (b ∷ bs) s q i m h =
-      stands_after bs (step_of setting s b) (auto.stepA 64 (is_tail setting) information_bits line_of q b) (below_rest 2 b bs i) (rw (buffer_length s.0 s.1 b) m)
-      (stands-next 64 (is_tail setting) line_bytes some_window some_bytes s.0 s.1 q b (below_head 2 b bs i) m h)
+      stands_after bs (step_of setting s b) (auto.step_a 64 (is_tail setting) information_bits line_of q b) (below_rest 2 b bs i) (rw (buffer_length s.0 s.1 b) m)
+      (stands_next 64 (is_tail setting) line_bytes some_window some_bytes s.0 s.1 q b (below_head 2 b bs i) m h)
 
   -- ---- what holds at a moment
 
@@ -118,12 +118,12 @@ module _ (setting : ℕ) where
     long : 44356 ≤ length buf
     xs : List ℕ
     split : bits_of bytes ≡ xs ++ digits left unread
-    stands : StandsNow (phase, buf) (runA (seek []) xs)
-    lines-so : ls ≡ found (seek []) xs
+    stands : StandsNow (phase, buf) (run_a (seek []) xs)
+    lines_so : ls ≡ found (seek []) xs
 
   -- unread bits complete nothing: between lines they are too few, in a line there are none
-  quiet : (g : Phase) (buf : List ℕ) (n v : ℕ) → Good g n v → outsNow (g, buf) (digits n v) ≡ []
-  quiet (seeking c w) buf n v h = seeking-quiet 64 (is_tail setting) line_bytes some_window some_bytes c w buf n v h.2
+  quiet : (g : Phase) (buf : List ℕ) (n v : ℕ) → Good g n v → outs_now (g, buf) (digits n v) ≡ []
+  quiet (seeking c w) buf n v h = seeking_quiet 64 (is_tail setting) line_bytes some_window some_bytes c w buf n v h.2
   quiet (within p r q) buf n v h = rw (h.3, no_digits v)
 
 module _ (f : ℕ) (format : Format) (ok : format_of f ≡ Is format) (setting : ℕ) (small : setting ≤ largest_setting)
@@ -131,17 +131,17 @@ module _ (f : ℕ) (format : Format) (ok : format_of f ≡ Is format) (setting :
   -- from a moment over the bits ys
   go_on : (s : State) (buf bytes : List ℕ) (ls : List (List ℕ)) (h : Holds setting s buf bytes ls) (k : ℕ) (p ys : List ℕ) (t n' v' : ℕ) (b : Bench) (s' : State) (after' : List ℕ) (o : List (List ℕ))
       → digits h.left h.unread ++ bits_of p ≡ ys ++ (digits n' v' ++ bits_of (drop t p))
-      → b ≡ afterNow setting (h.phase, lent_to lend k h.phase buf) ys
-      → outsNow setting (h.phase, lent_to lend k h.phase buf) ys ≡ o
+      → b ≡ after_now setting (h.phase, lent_to lend k h.phase buf) ys
+      → outs_now setting (h.phase, lent_to lend k h.phase buf) ys ≡ o
       → s' ≡ state_of b.0 n' v' → Good b.0 n' v' → 44356 ≤ length b.1 → after' ≡ b.1
       → Holds setting s' after' (bytes ++ take t p) (ls ++ o)
   go_on s buf bytes ls h k p ys t n' v' b s' after' o e g q st gd m w =
       let r = room f format ok setting small lend long k h.phase buf h.long in
-      let lent : StandsNow setting (h.phase, lent_to lend k h.phase buf) (runA setting (seek []) h.xs) =
-      stands-lent 64 (is_tail setting) line_bytes some_window some_bytes lend long k h.phase buf (runA setting (seek []) h.xs) h.stands in
+      let lent : StandsNow setting (h.phase, lent_to lend k h.phase buf) (run_a setting (seek []) h.xs) =
+      stands_lent 64 (is_tail setting) line_bytes some_window some_bytes lend long k h.phase buf (run_a setting (seek []) h.xs) h.stands in
       let below = read_below h.left h.unread p ys (digits n' v' ++ bits_of (drop t p)) e in
-      let moved : StandsNow setting b (runA setting (seek []) (h.xs ++ ys)) =
-      rw (g, run-append setting h.xs ys (seek [])) (stands_after setting ys (h.phase, lent_to lend k h.phase buf) (runA setting (seek []) h.xs) below r lent) in
+      let moved : StandsNow setting b (run_a setting (seek []) (h.xs ++ ys)) =
+      rw (g, run-append setting h.xs ys (seek [])) (stands_after setting ys (h.phase, lent_to lend k h.phase buf) (run_a setting (seek []) h.xs) below r lent) in
       record {
         phase = b.0;
         left = n';
@@ -151,42 +151,42 @@ module _ (f : ℕ) (format : Format) (ok : format_of f ≡ Is format) (setting :
         long = rw w m;
         xs = h.xs ++ ys;
         split = split_next bytes p h.xs ys t h.left h.unread n' v' h.split e;
-        stands = subst (λ (x : List ℕ). StandsNow setting (b.0, x) (runA setting (seek []) (h.xs ++ ys))) (sym w) moved;
-        lines-so = ap₂ (λ (x y : List (List ℕ)). x ++ y) h.lines-so
-            (sym q ∙ outs-found 64 (is_tail setting) line_bytes some_window some_bytes ys h.phase (lent_to lend k h.phase buf) (runA setting (seek []) h.xs) below r lent)
-            ∙ sym (auto.found-append 64 (is_tail setting) information_bits line_of (seek []) h.xs ys);
+        stands = subst (λ (x : List ℕ). StandsNow setting (b.0, x) (run_a setting (seek []) (h.xs ++ ys))) (sym w) moved;
+        lines_so = ap₂ (λ (x y : List (List ℕ)). x ++ y) h.lines_so
+            (sym q ∙ outs_found 64 (is_tail setting) line_bytes some_window some_bytes ys h.phase (lent_to lend k h.phase buf) (run_a setting (seek []) h.xs) below r lent)
+            ∙ sym (auto.found_append 64 (is_tail setting) information_bits line_of (seek []) h.xs ys);
       }
 
-  abbrev lentNow : ℕ → Phase → List ℕ → Bench
-  lentNow k g buf = (g, lent_to lend k g buf)
+  abbrev lent_now : ℕ → Phase → List ℕ → Bench
+  lent_now k g buf = (g, lent_to lend k g buf)
 
   -- the call of a moment, on the bits
   module _ (s : State) (buf bytes : List ℕ) (ls : List (List ℕ)) (h : Holds setting s buf bytes ls) (k : ℕ) (p : List ℕ) where
     abbrev c : Call Bench
-    c = call (step_of setting) done_of (lentNow k h.phase buf) h.left h.unread p
+    c = call (step_of setting) done_of (lent_now k h.phase buf) h.left h.unread p
 
     answer_at : (a : Answer) → read_answer f setting s p (lent_for lend k s buf) ≡ a → call_answer c ≡ a
     answer_at a e =
-        sym (answer-lent f format ok setting small lend long k h.phase h.left h.unread p buf h.good h.long)
+        sym (answer_lent f format ok setting small lend long k h.phase h.left h.unread p buf h.good h.long)
         ∙ ap (λ (x : State). read_answer f setting x p (lent_for lend k x buf)) (sym h.same)
         ∙ e
 
-    buffer-at : read_left f setting s p (lent_for lend k s buf) ≡ call_left c
-    buffer-at =
+    buffer_at : read_left f setting s p (lent_for lend k s buf) ≡ call_left c
+    buffer_at =
         ap (λ (x : State). read_left f setting x p (lent_for lend k x buf)) h.same
         ∙ buffer_lent f format ok setting small lend long k h.phase h.left h.unread p buf h.good h.long
 
     left_at : LeftBy setting c
     left_at = left_call setting p h.phase (lent_to lend k h.phase buf) h.left h.unread h.good (room f format ok setting small lend long k h.phase buf h.long)
 
-    onward-at : OnwardBy (step_of setting) done_of (simulates.line_in line_bytes) (lentNow k h.phase buf) (digits h.left h.unread ++ bits_of p) p c
-    onward-at = onward-call (step_of setting) done_of (simulates.line_in line_bytes) (lentNow k h.phase buf) h.left h.unread p
+    onward_at : OnwardBy (step_of setting) done_of (simulates.line_in line_bytes) (lent_now k h.phase buf) (digits h.left h.unread ++ bits_of p) p c
+    onward_at = onward_call (step_of setting) done_of (simulates.line_in line_bytes) (lent_now k h.phase buf) h.left h.unread p
 
     holds_on : (t : ℕ) (s' : State) → read_answer f setting s p (lent_for lend k s buf) ≡ More t s'
         → Holds setting s' (read_left f setting s p (lent_for lend k s buf)) (bytes ++ take t p) ls
-    holds_on t s' e = go c left_at onward-at (answer_at (More t s') e) buffer-at
+    holds_on t s' e = go c left_at onward_at (answer_at (More t s') e) buffer_at
       where
-        go : (c : Call Bench) → LeftBy setting c → OnwardBy (step_of setting) done_of (simulates.line_in line_bytes) (lentNow k h.phase buf) (digits h.left h.unread ++ bits_of p) p c
+        go : (c : Call Bench) → LeftBy setting c → OnwardBy (step_of setting) done_of (simulates.line_in line_bytes) (lent_now k h.phase buf) (digits h.left h.unread ++ bits_of p) p c
             → call_answer c ≡ More t s' → read_left f setting s p (lent_for lend k s buf) ≡ call_left c
             → Holds setting s' (read_left f setting s p (lent_for lend k s buf)) (bytes ++ take t p) ls
         go (more t' b n' v') l o a w =
@@ -197,12 +197,12 @@ module _ (f : ℕ) (format : Format) (ok : format_of f ≡ Is format) (setting :
             (rw z at o.split) o.goes o.quiet st l.0 l.1 w)
         go (whole t' b n' v') l o a w = let z : ◌≡◌ {A = ℕ} 0 1 = cc in absurd (omega arith)
 
-    holds-got : (t : ℕ) (s' : State) → read_answer f setting s p (lent_for lend k s buf) ≡ Line t s'
+    holds_got : (t : ℕ) (s' : State) → read_answer f setting s p (lent_for lend k s buf) ≡ Line t s'
         → Holds setting s' (read_left f setting s p (lent_for lend k s buf)) (bytes ++ take t p) (ls ++ (line_in (read_left f setting s p (lent_for lend k s buf)) ∷ []))
     unfolding line_in
-    holds-got t s' e = go c left_at onward-at (answer_at (Line t s') e) buffer-at
+    holds_got t s' e = go c left_at onward_at (answer_at (Line t s') e) buffer_at
       where
-        go : (c : Call Bench) → LeftBy setting c → OnwardBy (step_of setting) done_of (simulates.line_in line_bytes) (lentNow k h.phase buf) (digits h.left h.unread ++ bits_of p) p c
+        go : (c : Call Bench) → LeftBy setting c → OnwardBy (step_of setting) done_of (simulates.line_in line_bytes) (lent_now k h.phase buf) (digits h.left h.unread ++ bits_of p) p c
             → call_answer c ≡ Line t s' → read_left f setting s p (lent_for lend k s buf) ≡ call_left c
             → Holds setting s' (read_left f setting s p (lent_for lend k s buf)) (bytes ++ take t p) (ls ++ (bits_of (take line_bytes (read_left f setting s p (lent_for lend k s buf))) ∷ []))
         go (more t' b n' v') l o a w = let z : ◌≡◌ {A = ℕ} 0 1 = cc in absurd (omega arith)
@@ -217,12 +217,12 @@ module _ (f : ℕ) (format : Format) (ok : format_of f ≡ Is format) (setting :
     before_last : (t : ℕ) (s' : State) → read_answer f setting s p (lent_for lend k s buf) ≡ Line t s'
         → lines setting (take (8 * length (bytes ++ take t p) - s'.unread_count - 1) (bits_of (bytes ++ take t p))) ≡ ls
     unfolding lines
-    before_last t s' e = go c left_at onward-at (answer_at (Line t s') e)
+    before_last t s' e = go c left_at onward_at (answer_at (Line t s') e)
       where
         start : Bench
-        start = lentNow k h.phase buf
+        start = lent_now k h.phase buf
 
-        go : (c : Call Bench) → LeftBy setting c → OnwardBy (step_of setting) done_of (simulates.line_in line_bytes) (lentNow k h.phase buf) (digits h.left h.unread ++ bits_of p) p c
+        go : (c : Call Bench) → LeftBy setting c → OnwardBy (step_of setting) done_of (simulates.line_in line_bytes) (lent_now k h.phase buf) (digits h.left h.unread ++ bits_of p) p c
             → call_answer c ≡ Line t s'
             → lines setting (take (8 * length (bytes ++ take t p) - s'.unread_count - 1) (bits_of (bytes ++ take t p))) ≡ ls
         go (more t' b n' v') l o a = let z : ◌≡◌ {A = ℕ} 0 1 = cc in absurd (omega arith)
@@ -232,8 +232,8 @@ module _ (f : ℕ) (format : Format) (ok : format_of f ≡ Is format) (setting :
             let u : s'.unread_count ≡ n' = ap (λ (x : State). x.unread_count) st ∙ left_same b.0 n' v' l.0 in
             let ys : List ℕ = h.xs ++ o.bits in
             let r = room f format ok setting small lend long k h.phase buf h.long in
-            let lent : StandsNow setting start (runA setting (seek []) h.xs) =
-            stands-lent 64 (is_tail setting) line_bytes some_window some_bytes lend long k h.phase buf (runA setting (seek []) h.xs) h.stands in
+            let lent : StandsNow setting start (run_a setting (seek []) h.xs) =
+            stands_lent 64 (is_tail setting) line_bytes some_window some_bytes lend long k h.phase buf (run_a setting (seek []) h.xs) h.stands in
             let cut : digits h.left h.unread ++ bits_of p ≡ (o.bits ++ (o.last ∷ [])) ++ (digits n' v' ++ bits_of (drop t p)) = rw z at o.split in
             let below = read_below h.left h.unread p o.bits ((o.last ∷ []) ++ (digits n' v' ++ bits_of (drop t p)))
             (cut ∙ append_assoc o.bits (o.last ∷ []) (digits n' v' ++ bits_of (drop t p))) in
@@ -245,10 +245,10 @@ module _ (f : ℕ) (format : Format) (ok : format_of f ≡ Is format) (setting :
             omega (arith, length_bits (bytes ++ take t p), ap length all, length-append ys (o.last ∷ digits n' v'), length_digits n' v') in
             ap (λ (x : List ℕ). lines setting (take (8 * length (bytes ++ take t p) - s'.unread_count - 1) x)) all
             ∙ ap (lines setting) (take_at ys (o.last ∷ digits n' v') (8 * length (bytes ++ take t p) - s'.unread_count - 1) m)
-            ∙ sym (auto.found-is 64 (is_tail setting) information_bits line_of some_window (zero-lt-suc 354847) ys)
-            ∙ auto.found-append 64 (is_tail setting) information_bits line_of (seek []) h.xs o.bits
-            ∙ ap₂ (λ (x y : List (List ℕ)). x ++ y) (sym h.lines-so)
-            (sym (outs-found 64 (is_tail setting) line_bytes some_window some_bytes o.bits h.phase (lent_to lend k h.phase buf) (runA setting (seek []) h.xs) below r lent) ∙ o.quiet)
+            ∙ sym (auto.found_is 64 (is_tail setting) information_bits line_of some_window (zero-lt-suc 354847) ys)
+            ∙ auto.found_append 64 (is_tail setting) information_bits line_of (seek []) h.xs o.bits
+            ∙ ap₂ (λ (x y : List (List ℕ)). x ++ y) (sym h.lines_so)
+            (sym (outs_found 64 (is_tail setting) line_bytes some_window some_bytes o.bits h.phase (lent_to lend k h.phase buf) (run_a setting (seek []) h.xs) below r lent) ∙ o.quiet)
             ∙ append-nil ls
 
   holds : {first : List ℕ} → 44356 ≤ length first → {k : ℕ} {s : State} {buf bytes : List ℕ} {ls : List (List ℕ)}
@@ -263,11 +263,11 @@ module _ (f : ℕ) (format : Format) (ok : format_of f ≡ Is format) (setting :
         long = m;
         xs = [];
         split = no_bits ∙ sym (no_digits 0);
-        stands = fresh-search 64 (is_tail setting) line_bytes some_window some_bytes first;
-        lines-so = refl;
+        stands = fresh_search 64 (is_tail setting) line_bytes some_window some_bytes first;
+        lines_so = refl;
       }
   holds m (driven.Moment.on {k = k} {s = s} {buf = buf} {bytes = bytes} {ls = ls} {t = t} {s' = s'} p d e) = holds_on s buf bytes ls (holds m d) k p t s' e
-  holds m (driven.Moment.got {k = k} {s = s} {buf = buf} {bytes = bytes} {ls = ls} {t = t} {s' = s'} p d e) = holds-got s buf bytes ls (holds m d) k p t s' e
+  holds m (driven.Moment.got {k = k} {s = s} {buf = buf} {bytes = bytes} {ls = ls} {t = t} {s' = s'} p d e) = holds_got s buf bytes ls (holds m d) k p t s' e
   holds m (driven.Moment.refused {s = s} {buf = buf} {bytes = bytes} {ls = ls} {n = n} g a r p d e) =
       subst (λ (x : List ℕ). Holds setting s x bytes ls) (sym (refused_stays g a r p buf n e)) (holds m d)
 
@@ -284,33 +284,33 @@ module _ (f : ℕ) (format : Format) (ok : format_of f ≡ Is format) (setting :
   full_size first m d = (holds m d).long
 
   -- AT EVERY MOMENT: the lines handed out are the lines of the bits read so far
-  pub at-every-moment : (first : List ℕ) → 44356 ≤ length first → {k : ℕ} {s : State} {buf bytes : List ℕ} {ls : List (List ℕ)}
+  pub at_every_moment : (first : List ℕ) → 44356 ≤ length first → {k : ℕ} {s : State} {buf bytes : List ℕ} {ls : List (List ℕ)}
       → Moment f setting lend first k s buf bytes ls → ls ≡ lines setting (bits_read s bytes)
   unfolding lines
-  at-every-moment first m {s = s} {buf = buf} {bytes = bytes} {ls = ls} d =
+  at_every_moment first m {s = s} {buf = buf} {bytes = bytes} {ls = ls} d =
       let h = holds m d in
-      h.lines-so
-      ∙ auto.found-is 64 (is_tail setting) information_bits line_of some_window (zero-lt-suc 354847) h.xs
+      h.lines_so
+      ∙ auto.found_is 64 (is_tail setting) information_bits line_of some_window (zero-lt-suc 354847) h.xs
       ∙ ap (lines setting) (sym (bits_at s buf bytes ls h))
 
   -- and so those of the bytes taken so far: up to seven bits that are not read yet complete no line
-  pub of-the-bytes : (first : List ℕ) → 44356 ≤ length first → {k : ℕ} {s : State} {buf bytes : List ℕ} {ls : List (List ℕ)}
+  pub of_the_bytes : (first : List ℕ) → 44356 ≤ length first → {k : ℕ} {s : State} {buf bytes : List ℕ} {ls : List (List ℕ)}
       → Moment f setting lend first k s buf bytes ls → ls ≡ recorded setting bytes
   unfolding recorded lines
-  of-the-bytes first m {s = s} {buf = buf} {bytes = bytes} {ls = ls} d =
+  of_the_bytes first m {s = s} {buf = buf} {bytes = bytes} {ls = ls} d =
       let h = holds m d in
       let unread : List ℕ = digits h.left h.unread in
-      let none : found setting (runA setting (seek []) h.xs) unread ≡ [] =
-      sym (outs-found 64 (is_tail setting) line_bytes some_window some_bytes unread h.phase buf (runA setting (seek []) h.xs) (digits_below h.left h.unread) h.long h.stands)
+      let none : found setting (run_a setting (seek []) h.xs) unread ≡ [] =
+      sym (outs_found 64 (is_tail setting) line_bytes some_window some_bytes unread h.phase buf (run_a setting (seek []) h.xs) (digits_below h.left h.unread) h.long h.stands)
       ∙ quiet setting h.phase buf h.left h.unread h.good in
       sym (append-nil ls)
-      ∙ ap₂ (λ (x y : List (List ℕ)). x ++ y) h.lines-so (sym none)
-      ∙ sym (auto.found-append 64 (is_tail setting) information_bits line_of (seek []) h.xs unread)
-      ∙ auto.found-is 64 (is_tail setting) information_bits line_of some_window (zero-lt-suc 354847) (h.xs ++ unread)
+      ∙ ap₂ (λ (x y : List (List ℕ)). x ++ y) h.lines_so (sym none)
+      ∙ sym (auto.found_append 64 (is_tail setting) information_bits line_of (seek []) h.xs unread)
+      ∙ auto.found_is 64 (is_tail setting) information_bits line_of some_window (zero-lt-suc 354847) (h.xs ++ unread)
       ∙ ap (lines setting) (sym h.split)
 
   -- and a line is handed out right at its last bit: of the bits read without that one, it is no line yet
-  pub at-its-last-bit : (first : List ℕ) → 44356 ≤ length first → {k : ℕ} {s : State} {buf bytes : List ℕ} {ls : List (List ℕ)}
+  pub at_its_last_bit : (first : List ℕ) → 44356 ≤ length first → {k : ℕ} {s : State} {buf bytes : List ℕ} {ls : List (List ℕ)}
       → Moment f setting lend first k s buf bytes ls → (p : List ℕ) (t : ℕ) (s' : State) → read_answer f setting s p (lent_for lend k s buf) ≡ Line t s'
       → lines setting (take (8 * length (bytes ++ take t p) - s'.unread_count - 1) (bits_of (bytes ++ take t p))) ≡ ls
-  at-its-last-bit first m {k = k} {s = s} {buf = buf} {bytes = bytes} {ls = ls} d p t s' e = before_last s buf bytes ls (holds m d) k p t s' e
+  at_its_last_bit first m {k = k} {s = s} {buf = buf} {bytes = bytes} {ls = ls} d p t s' e = before_last s buf bytes ls (holds m d) k p t s' e

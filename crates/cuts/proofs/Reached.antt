@@ -25,7 +25,7 @@ use Rattle.scramble.proofs.Steps.{next_lt}
 use Rattle.scramble.specs.Wire.{plain_bit}
 use Rattle.reader_bits.specs.Call.{Call, call}
 use Rattle.reader_bits.specs.Lines.{is_tail}
-use Rattle.reader_bits.specs.Phase.{Phase, seeking, within, phaseNext, Bench}
+use Rattle.reader_bits.specs.Phase.{Phase, seeking, within, phase_next, Bench}
 use Rattle.reader_bits.specs.Loops.{step_of, done_of}
 use Rattle.reader.specs.Read.{call_of, served_answer, served_left, read_answer, read_left}
 use Rattle.reader_line.specs.Answers.{call_answer, call_left}
@@ -33,7 +33,7 @@ use Rattle.reader_refusals.specs.Refusing.{largest_setting, setting_refusal, rea
 use Rattle.reader_line.specs.declared.Answer.TheVariants.{Refused}
 use Rattle.reader_record.specs.Records.{counts_of, possible_of, state_of}
 use Rattle.reader_record.specs.declared.State.{State}
-use Rattle.cuts.proofs.Calls.{Gives, gives-call}
+use Rattle.cuts.proofs.Calls.{Gives, gives_call}
 use Rattle.bits.proofs.Push.{push_lt}
 use Rattle.scramble.proofs.Wire.{plain_lt}
 use Rattle.cuts.proofs.Stands.{buffer_length, after_line}
@@ -62,8 +62,8 @@ good_left (within p r q) n v h = omega (arith, h.3)
 pub fresh_good : Good (seeking 0 0) 0 0
 fresh_good = (zero-lt-suc 63, le_refl 1, zero-le, le_refl 1)
 
-pub fit_next : (setting : ℕ) (f : Phase) (b : ℕ) → b < 2 → Fit f → Fit (phaseNext 64 (is_tail setting) line_bytes f b)
-unfolding phaseNext
+pub fit_next : (setting : ℕ) (f : Phase) (b : ℕ) → b < 2 → Fit f → Fit (phase_next 64 (is_tail setting) line_bytes f b)
+unfolding phase_next
 fit_next setting (seeking c w) b k h = go (ltb (suc c) 64) refl (is_tail setting (digits 64 (w * 2 + b)))
   where
     go : (x : Bool) → ltb (suc c) 64 ≡ x → (y : Bool)
@@ -104,7 +104,7 @@ pub inside_rest : (s : Bench) → Inside s → Left s 0 0
 inside_rest s i = (fit_good s.0 i.0, i.1)
 
 pub inside_stop : (setting : ℕ) (s : Bench) (b : ℕ) → b < 2 → done_of s b ≡ true → Inside s → (n v : ℕ) → n ≤ 7 → v < 2 ^ n → Left (step_of setting s b) n v
-inside_stop setting s b h e i n v l w = (go (phaseNext 64 (is_tail setting) line_bytes s.0 b) (after_line 64 (is_tail setting) line_bytes s.0 b e), room_next setting s b i.1)
+inside_stop setting s b h e i n v l w = (go (phase_next 64 (is_tail setting) line_bytes s.0 b) (after_line 64 (is_tail setting) line_bytes s.0 b e), room_next setting s b i.1)
   where
     go : (g : Phase) → g ≡ seeking 0 0 → Good g n v
     go g k = rw k (zero-lt-suc 63, le_refl 1, l, w)
@@ -114,7 +114,7 @@ LeftBy setting c = Gives (step_of setting) done_of Inside Left Left (inside_on s
 
 pub left_call : (setting : ℕ) (p : List ℕ) (g : Phase) (buf : List ℕ) (n v : ℕ) → Good g n v → 44356 ≤ length buf → LeftBy setting (call (step_of setting) done_of (g, buf) n v p)
 left_call setting p g buf n v h m =
-    gives-call (step_of setting) done_of Inside Left Left (inside_on setting) inside_rest (inside_stop setting) p (g, buf) n v (good_left g n v h) (good_fit g n v h, m) (h, m)
+    gives_call (step_of setting) done_of Inside Left Left (inside_on setting) inside_rest (inside_stop setting) p (g, buf) n v (good_left g n v h) (good_fit g n v h, m) (h, m)
 
 -- ---- such a record is not refused
 

@@ -19,11 +19,11 @@ use Rattle.scramble.specs.Sync.{fifteen_ones}
 use Rattle.scramble.specs.Wire.{plain_bit}
 use Rattle.wire.specs.Parts.{line_of}
 use Rattle.reader_bits.specs.Lines.{lines_of}
-use Rattle.reader_bits.specs.Phase.{Phase, seeking, within, phaseNext, buffer_next, completes, Bench, step, done}
-use Rattle.cuts.proofs.Auto.{Auto, seek, line, stepA, endsA, lineA, found, found-is}
+use Rattle.reader_bits.specs.Phase.{Phase, seeking, within, phase_next, buffer_next, completes, Bench, step, done}
+use Rattle.cuts.proofs.Auto.{Auto, seek, line, step_a, ends_a, line_a, found, found_is}
 use Rattle.cuts.proofs.Calls.{outs, Quiet}
-use Rattle.cuts.proofs.Cuts.{Reads, reads-iff}
-use Rattle.cuts.proofs.Stands.{Stands, buffer_length, after_line, fresh-search, stands-next, ends_same, line-whole}
+use Rattle.cuts.proofs.Cuts.{Reads, reads_iff}
+use Rattle.cuts.proofs.Stands.{Stands, buffer_length, after_line, fresh_search, stands_next, ends_same, line_whole}
 
 -- the line that stands in the buffer
 abbrev pub line_in : ℕ → Bench → List ℕ
@@ -45,9 +45,9 @@ module _ (W : ℕ) (test : List ℕ → Bool) (M : ℕ) where
   Far (within p r q) m = p + m < M * 8
 
   far_none : (bs : List ℕ) (f : Phase) (buf : List ℕ) → Far f (length bs) → outs (step W test M) (done M) (line_in M) (f, buf) bs ≡ []
-  unfolding phaseNext completes
+  unfolding phase_next completes
   far_none [] f buf h = refl
-  far_none (b ∷ bs) (seeking c w) buf h = far_none bs (phaseNext W test M (seeking c w) b) _ (go (ltb (suc c) W) (test (digits W (w * 2 + b))))
+  far_none (b ∷ bs) (seeking c w) buf h = far_none bs (phase_next W test M (seeking c w) b) _ (go (ltb (suc c) W) (test (digits W (w * 2 + b))))
     where
       go : (x y : Bool) → Far (cond x (seeking (suc c) (w * 2 + b)) (cond y (within 0 fifteen_ones 0) (seeking c ((w * 2 + b) % 2 ^ c)))) (length bs)
       go true y = omega arith
@@ -59,36 +59,36 @@ module _ (W : ℕ) (test : List ℕ → Bool) (M : ℕ) where
 
   module _ (pw : zero < W) (pm : zero < M) where
     -- unread bits complete no line
-    pub seeking-quiet : (c w : ℕ) (buf : List ℕ) (n v : ℕ) → n ≤ 7 → Quiet (step W test M) (done M) (line_in M) (seeking c w, buf) n v
-    seeking-quiet c w buf n v h = far_none (digits n v) (seeking c w) buf (let l = length_digits n v in omega arith)
+    pub seeking_quiet : (c w : ℕ) (buf : List ℕ) (n v : ℕ) → n ≤ 7 → Quiet (step W test M) (done M) (line_in M) (seeking c w, buf) n v
+    seeking_quiet c w buf n v h = far_none (digits n v) (seeking c w) buf (let l = length_digits n v in omega arith)
 
     pub calm : (s : Bench) (b : ℕ) → done M s b ≡ true → (n v : ℕ) → n ≤ 7 → Quiet (step W test M) (done M) (line_in M) (step W test M s b) n v
-    calm s b e n v h = rw (after_line W test M s.0 b e) (seeking-quiet 0 0 (buffer_next s.0 b s.1) n v h)
+    calm s b e n v h = rw (after_line W test M s.0 b e) (seeking_quiet 0 0 (buffer_next s.0 b s.1) n v h)
 
     -- ---- the lines that come
 
     abbrev pub StandsFor : Bench → Auto → Type 0
     StandsFor s q = Stands W test M s.0 s.1 q
 
-    pub outs-found : (bs : List ℕ) (f : Phase) (buf : List ℕ) (q : Auto) → Below 2 bs → M ≤ length buf → StandsFor (f, buf) q
+    pub outs_found : (bs : List ℕ) (f : Phase) (buf : List ℕ) (q : Auto) → Below 2 bs → M ≤ length buf → StandsFor (f, buf) q
         → outs (step W test M) (done M) (line_in M) (f, buf) bs ≡ found W test (M * 8) line_of q bs
-    outs-found [] f buf q i m s = refl
-    outs-found (b ∷ bs) f buf q i m s =
+    outs_found [] f buf q i m s = refl
+    outs_found (b ∷ bs) f buf q i m s =
         go (completes M f b) refl
-        (outs-found bs (phaseNext W test M f b) (buffer_next f b buf) (stepA W test (M * 8) line_of q b) (below_rest 2 b bs i)
+        (outs_found bs (phase_next W test M f b) (buffer_next f b buf) (step_a W test (M * 8) line_of q b) (below_rest 2 b bs i)
         (let l = buffer_length f buf b in omega arith)
-        (stands-next W test M pw pm f buf q b (below_head 2 b bs i) m s))
+        (stands_next W test M pw pm f buf q b (below_head 2 b bs i) m s))
       where
         here : List (List ℕ)
-        here = outs (step W test M) (done M) (line_in M) (phaseNext W test M f b, buffer_next f b buf) bs
+        here = outs (step W test M) (done M) (line_in M) (phase_next W test M f b, buffer_next f b buf) bs
 
         there : List (List ℕ)
-        there = found W test (M * 8) line_of (stepA W test (M * 8) line_of q b) bs
+        there = found W test (M * 8) line_of (step_a W test (M * 8) line_of q b) bs
 
         go : (t : Bool) → completes M f b ≡ t → here ≡ there
             → cond (completes M f b) (bits_of (take M (buffer_next f b buf)) ∷ here) here
-            ≡ cond (endsA W test (M * 8) line_of q b) (lineA W test (M * 8) line_of q b ∷ there) there
-        go true e r = rw (← ends_same W test M pw pm f buf q b s, e, line-whole W test M pw pm f buf q b m s e, r)
+            ≡ cond (ends_a W test (M * 8) line_of q b) (line_a W test (M * 8) line_of q b ∷ there) there
+        go true e r = rw (← ends_same W test M pw pm f buf q b s, e, line_whole W test M pw pm f buf q b m s e, r)
         go false e r = rw (← ends_same W test M pw pm f buf q b s, e, r)
 
     -- ---- a reader that stands for some bits, with a buffer that is long enough
@@ -102,43 +102,43 @@ module _ (W : ℕ) (test : List ℕ → Bool) (M : ℕ) where
     ok_step s b h o =
         record {
           room = let l = buffer_length s.0 s.1 b in let k = o.room in omega arith;
-          bits = stepA W test (M * 8) line_of o.bits b;
-          stands = stands-next W test M pw pm s.0 s.1 o.bits b h o.room o.stands;
+          bits = step_a W test (M * 8) line_of o.bits b;
+          stands = stands_next W test M pw pm s.0 s.1 o.bits b h o.room o.stands;
         }
 
     module _ (lend : ℕ → List ℕ → List ℕ) (long : (k : ℕ) (buf : List ℕ) → M ≤ length buf → M ≤ length (lend k buf)) where
-      pub stands-lent : (k : ℕ) (f : Phase) (buf : List ℕ) (q : Auto) → StandsFor (f, buf) q → StandsFor (f, lent_to lend k f buf) q
-      stands-lent k (seeking c w) buf (seek l) s = s
-      stands-lent k (seeking c w) buf (line g) s = s
-      stands-lent k (within p r q) buf a s = s
+      pub stands_lent : (k : ℕ) (f : Phase) (buf : List ℕ) (q : Auto) → StandsFor (f, buf) q → StandsFor (f, lent_to lend k f buf) q
+      stands_lent k (seeking c w) buf (seek l) s = s
+      stands_lent k (seeking c w) buf (line g) s = s
+      stands_lent k (within p r q) buf a s = s
 
-      pub room-lent : (k : ℕ) (f : Phase) (buf : List ℕ) → M ≤ length buf → M ≤ length (lent_to lend k f buf)
-      room-lent k (seeking c w) buf h = long k buf h
-      room-lent k (within p r q) buf h = h
+      pub room_lent : (k : ℕ) (f : Phase) (buf : List ℕ) → M ≤ length buf → M ≤ length (lent_to lend k f buf)
+      room_lent k (seeking c w) buf h = long k buf h
+      room_lent k (within p r q) buf h = h
 
-      pub ok-swap : (k : ℕ) (s : Bench) → Ok s → Ok (swap lend k s)
-      ok-swap k s o =
+      pub ok_swap : (k : ℕ) (s : Bench) → Ok s → Ok (swap lend k s)
+      ok_swap k s o =
           record {
-            room = room-lent k s.0 s.1 o.room;
+            room = room_lent k s.0 s.1 o.room;
             bits = o.bits;
-            stands = stands-lent k s.0 s.1 o.bits o.stands;
+            stands = stands_lent k s.0 s.1 o.bits o.stands;
           }
 
       -- another buffer changes no line to come
-      swap-same : (k : ℕ) (s : Bench) → Ok s → (bs : List ℕ) → Below 2 bs
+      swap_same : (k : ℕ) (s : Bench) → Ok s → (bs : List ℕ) → Below 2 bs
           → outs (step W test M) (done M) (line_in M) (swap lend k s) bs ≡ outs (step W test M) (done M) (line_in M) s bs
-      swap-same k s o bs h =
-          outs-found bs s.0 (lent_to lend k s.0 s.1) o.bits h (room-lent k s.0 s.1 o.room) (stands-lent k s.0 s.1 o.bits o.stands)
-          ∙ sym (outs-found bs s.0 s.1 o.bits h o.room o.stands)
+      swap_same k s o bs h =
+          outs_found bs s.0 (lent_to lend k s.0 s.1) o.bits h (room_lent k s.0 s.1 o.room) (stands_lent k s.0 s.1 o.bits o.stands)
+          ∙ sym (outs_found bs s.0 s.1 o.bits h o.room o.stands)
 
       pub reads_lines : (buf : List ℕ) → M ≤ length buf → (ps ls : List (List ℕ))
           → Reads (step W test M) (done M) (line_in M) (swap lend) 0 (seeking 0 0, buf) 0 0 ps ls ↔ (ls ≡ lines_of W test (M * 8) line_of (bits_of (in_arow ps)))
       reads_lines buf m ps ls =
-          let o : Ok (seeking 0 0, buf) = record { room = m; bits = seek []; stands = fresh-search W test M pw pm buf } in
+          let o : Ok (seeking 0 0, buf) = record { room = m; bits = seek []; stands = fresh_search W test M pw pm buf } in
           let e : outs (step W test M) (done M) (line_in M) (seeking 0 0, buf) (digits 0 0 ++ bits_of (in_arow ps)) ≡ lines_of W test (M * 8) line_of (bits_of (in_arow ps)) =
           ap (λ (l : List ℕ). outs (step W test M) (done M) (line_in M) (seeking 0 0, buf) (l ++ bits_of (in_arow ps))) (no_digits 0)
-          ∙ outs-found (bits_of (in_arow ps)) (seeking 0 0) buf (seek []) (bits_below (in_arow ps)) m (fresh-search W test M pw pm buf)
-          ∙ found-is W test (M * 8) line_of pw (omega arith) (bits_of (in_arow ps)) in
-          let i = reads-iff (step W test M) (done M) (line_in M) (swap lend) Ok ok_step ok-swap swap-same calm 0 (seeking 0 0, buf) 0 0
-          (o, zero-le, seeking-quiet 0 0 buf 0 0 zero-le) ps ls in
+          ∙ outs_found (bits_of (in_arow ps)) (seeking 0 0) buf (seek []) (bits_below (in_arow ps)) m (fresh_search W test M pw pm buf)
+          ∙ found_is W test (M * 8) line_of pw (omega arith) (bits_of (in_arow ps)) in
+          let i = reads_iff (step W test M) (done M) (line_in M) (swap lend) Ok ok_step ok_swap swap_same calm 0 (seeking 0 0, buf) 0 0
+          (o, zero-le, seeking_quiet 0 0 buf 0 0 zero-le) ps ls in
           (λ r. i.0 r ∙ e, λ h. i.1 (h ∙ sym e))

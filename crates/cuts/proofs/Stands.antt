@@ -21,13 +21,13 @@ use Rattle.scramble.specs.Wire.{plain_bit}
 use Rattle.wire.specs.Parts.{line_of}
 use Rattle.scramble.proofs.Steps.{after_more}
 use Rattle.reader_bits.specs.Lines.{opens}
-use Rattle.reader_bits.specs.Phase.{Phase, seeking, within, phaseNext, buffer_next, completes}
-use Rattle.cuts.proofs.Auto.{Auto, seek, line, stepA, endsA, lineA}
+use Rattle.reader_bits.specs.Phase.{Phase, seeking, within, phase_next, buffer_next, completes}
+use Rattle.cuts.proofs.Auto.{Auto, seek, line, step_a, ends_a, line_a}
 use Rattle.bits.proofs.Push.{push_lt}
 use Rattle.scramble.proofs.Wire.{plain_lt}
 use Rattle.wire.proofs.Wire.{line_snoc, line_none}
 use Rattle.cuts.proofs.Snoc.{in_buffer}
-use Rattle.cuts.proofs.Windows.{opens-short, opens-window}
+use Rattle.cuts.proofs.Windows.{opens_short, opens_window}
 
 pub buffer_length : (f : Phase) (buf : List ℕ) (b : ℕ) → length (buffer_next f b buf) ≡ length buf
 unfolding buffer_next
@@ -46,26 +46,26 @@ module _ (W : ℕ) (test : List ℕ → Bool) (M : ℕ) where
   Stands (within p r q) buf (line g) =
       (length g ≡ p) × (p < M * 8) × (r ≡ register_after p fifteen_ones) × (bits_of (take (p / 8) buf) ++ digits (p % 8) q ≡ line_of g)
 
-  pub after_line : (f : Phase) (b : ℕ) → completes M f b ≡ true → phaseNext W test M f b ≡ seeking 0 0
-  unfolding completes phaseNext
+  pub after_line : (f : Phase) (b : ℕ) → completes M f b ≡ true → phase_next W test M f b ≡ seeking 0 0
+  unfolding completes phase_next
   after_line (seeking c w) b e = absurd (false≢true e)
   after_line (within p r q) b e = rw e
 
   module _ (pw : zero < W) (pm : zero < M) where
-    abbrev stepB : Auto → ℕ → Auto
-    stepB = stepA W test (M * 8) line_of
+    abbrev step_b : Auto → ℕ → Auto
+    step_b = step_a W test (M * 8) line_of
 
-    fresh-line : (buf : List ℕ) → Stands (within 0 fifteen_ones 0) buf (line [])
+    fresh_line : (buf : List ℕ) → Stands (within 0 fifteen_ones 0) buf (line [])
     unfolding register_after
-    fresh-line buf = (refl, omega arith, refl, rw (no_bits, no_digits 0, line_none))
+    fresh_line buf = (refl, omega arith, refl, rw (no_bits, no_digits 0, line_none))
 
-    pub fresh-search : (buf : List ℕ) → Stands (seeking 0 0) buf (seek [])
-    fresh-search buf = (pw, le_refl 1, sym (no_digits 0))
+    pub fresh_search : (buf : List ℕ) → Stands (seeking 0 0) buf (seek [])
+    fresh_search buf = (pw, le_refl 1, sym (no_digits 0))
 
-    seek-stands : (c w b : ℕ) (buf l : List ℕ) → b < 2 → Stands (seeking c w) buf (seek l)
-        → Stands (phaseNext W test M (seeking c w) b) (buffer_next (seeking c w) b buf) (stepB (seek l) b)
-    unfolding phaseNext buffer_next
-    seek-stands c w b buf l h s =
+    seek_stands : (c w b : ℕ) (buf l : List ℕ) → b < 2 → Stands (seeking c w) buf (seek l)
+        → Stands (phase_next W test M (seeking c w) b) (buffer_next (seeking c w) b buf) (step_b (seek l) b)
+    unfolding phase_next buffer_next
+    seek_stands c w b buf l h s =
         rw (ap (λ (k : List ℕ). k ++ (b ∷ [])) s.2 ∙ sym (digits_snoc c w b h)) (go (ltb (suc c) W) refl (test (digits W v)) refl)
       where
         v : ℕ
@@ -79,19 +79,19 @@ module _ (W : ℕ) (test : List ℕ → Bool) (M : ℕ) where
 
         -- a window as long as it must be
         window : suc c ≡ W → opens W test x ≡ test (digits W v)
-        window e = opens-window W test x (xl ∙ e) ∙ ap (λ (k : ℕ). test (digits k v)) e
+        window e = opens_window W test x (xl ∙ e) ∙ ap (λ (k : ℕ). test (digits k v)) e
 
         go : (t : Bool) → ltb (suc c) W ≡ t → (u : Bool) → test (digits W v) ≡ u
             → Stands (cond t (seeking (suc c) v) (cond u (within 0 fifteen_ones 0) (seeking c (v % 2 ^ c)))) buf
             (cond (opens W test x) (line []) (seek (cond (ltb (length x) W) x (drop 1 x))))
         go true e u f =
             let k = ltb-true (suc c) W e in
-            rw (opens-short W test x (omega (arith, xl)), lt-ltb (length x) W (omega (arith, xl)))
+            rw (opens_short W test x (omega (arith, xl)), lt-ltb (length x) W (omega (arith, xl)))
             (k, rw add-one at (push_lt c w b s.1 h), refl)
         go false e true f =
             let k = ltb-false (suc c) W e in
             let z : suc c ≡ W = omega (arith, s.0) in
-            rw (window z ∙ f) (fresh-line buf)
+            rw (window z ∙ f) (fresh_line buf)
         go false e false f =
             let k = ltb-false (suc c) W e in
             let z : suc c ≡ W = omega (arith, s.0) in
@@ -99,15 +99,15 @@ module _ (W : ℕ) (test : List ℕ → Bool) (M : ℕ) where
             (s.0, mod-lt v (pow_pos c), digits_rest c v)
 
     line_stands : (p r q b : ℕ) (buf g : List ℕ) → M ≤ length buf → Stands (within p r q) buf (line g)
-        → Stands (phaseNext W test M (within p r q) b) (buffer_next (within p r q) b buf) (stepB (line g) b)
-    unfolding phaseNext buffer_next
+        → Stands (phase_next W test M (within p r q) b) (buffer_next (within p r q) b buf) (step_b (line g) b)
+    unfolding phase_next buffer_next
     line_stands p r q b buf g m s = rw s.0 (go (leb (M * 8) (suc p)) refl)
       where
         go : (t : Bool) → leb (M * 8) (suc p) ≡ t
             → Stands (cond t (seeking 0 0) (within (suc p) (next_register r) (cond (eqb (p % 8) 7) 0 (q * 2 + plain_bit p r b))))
             (cond (eqb (p % 8) 7) (set buf (p / 8) (q * 2 + plain_bit p r b)) buf)
             (cond t (seek []) (line (g ++ (b ∷ []))))
-        go true e = fresh-search buf
+        go true e = fresh_search buf
         go false e =
             let k = leb-false (M * 8) (suc p) e in
             let l = length-append g (b ∷ []) in (
@@ -117,14 +117,14 @@ module _ (W : ℕ) (test : List ℕ → Bool) (M : ℕ) where
               in_buffer M p q (plain_bit p r b) buf (line_of g) (plain_lt p r b) s.1 m s.3 ∙ sym (line_snoc p r b g s.0 s.2),
             )
 
-    pub stands-next : (f : Phase) (buf : List ℕ) (q : Auto) (b : ℕ) → b < 2 → M ≤ length buf → Stands f buf q
-        → Stands (phaseNext W test M f b) (buffer_next f b buf) (stepB q b)
-    stands-next (seeking c w) buf (seek l) b h m s = seek-stands c w b buf l h s
-    stands-next (seeking c w) buf (line g) b h m s = absurd s
-    stands-next (within p r q) buf (seek l) b h m s = absurd s
-    stands-next (within p r q) buf (line g) b h m s = line_stands p r q b buf g m s
+    pub stands_next : (f : Phase) (buf : List ℕ) (q : Auto) (b : ℕ) → b < 2 → M ≤ length buf → Stands f buf q
+        → Stands (phase_next W test M f b) (buffer_next f b buf) (step_b q b)
+    stands_next (seeking c w) buf (seek l) b h m s = seek_stands c w b buf l h s
+    stands_next (seeking c w) buf (line g) b h m s = absurd s
+    stands_next (within p r q) buf (seek l) b h m s = absurd s
+    stands_next (within p r q) buf (line g) b h m s = line_stands p r q b buf g m s
 
-    pub ends_same : (f : Phase) (buf : List ℕ) (q : Auto) (b : ℕ) → Stands f buf q → completes M f b ≡ endsA W test (M * 8) line_of q b
+    pub ends_same : (f : Phase) (buf : List ℕ) (q : Auto) (b : ℕ) → Stands f buf q → completes M f b ≡ ends_a W test (M * 8) line_of q b
     unfolding completes
     ends_same (seeking c w) buf (seek l) b s = refl
     ends_same (seeking c w) buf (line g) b s = absurd s
@@ -132,12 +132,12 @@ module _ (W : ℕ) (test : List ℕ → Bool) (M : ℕ) where
     ends_same (within p r q) buf (line g) b s = ap (λ (x : ℕ). leb (M * 8) (suc x)) (sym s.0)
 
     -- WHEN A LINE IS COMPLETE IT STANDS WHOLE IN THE BUFFER
-    pub line-whole : (f : Phase) (buf : List ℕ) (q : Auto) (b : ℕ) → M ≤ length buf → Stands f buf q → completes M f b ≡ true
-        → bits_of (take M (buffer_next f b buf)) ≡ lineA W test (M * 8) line_of q b
+    pub line_whole : (f : Phase) (buf : List ℕ) (q : Auto) (b : ℕ) → M ≤ length buf → Stands f buf q → completes M f b ≡ true
+        → bits_of (take M (buffer_next f b buf)) ≡ line_a W test (M * 8) line_of q b
     unfolding completes buffer_next
-    line-whole (seeking c w) buf q b m s e = absurd (false≢true e)
-    line-whole (within p r q) buf (seek l) b m s e = absurd s
-    line-whole (within p r q) buf (line g) b m s e =
+    line_whole (seeking c w) buf q b m s e = absurd (false≢true e)
+    line_whole (within p r q) buf (seek l) b m s e = absurd s
+    line_whole (within p r q) buf (line g) b m s e =
         let k = leb-true (M * 8) (suc p) e in
         let z : suc p % 8 ≡ 0 = omega (arith, s.1) in
         let d : suc p / 8 ≡ M = omega (arith, s.1) in

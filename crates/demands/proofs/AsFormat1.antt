@@ -19,9 +19,9 @@ pub as_format_1 : AsFormat1
 unfolding when unknown format_refusal named_by put_sync_refusal put_sync_answer put_sync_left asked_of line_refusal filler_refusal filler_answer read_refusal read_answer read_left on_wire wire_bytes write_line_refusal write_line_answer write_line_left block_refusal entry_refusal revision_answer first_longitude grid_at mapping_answer elements_answer level_refusal level_answer level_f64_answer
 as_format_1 =
     record {
-      put-sync = λ out. refl;
+      put_sync = λ out. refl;
       put-sync-left = λ out. refl;
-      write-line = λ line out. refl;
+      write_line = λ line out. refl;
       write-line-left = λ line out. refl;
       read = λ k s piece line. refl;
       reader_left = λ k s piece line. refl;
@@ -30,5 +30,5 @@ as_format_1 =
       mapping = λ m block i j. refl;
       elements = λ m block. refl;
       level = λ t a block c n. refl;
-      level-f64 = λ t a block c n. refl;
+      level_f64 = λ t a block c n. refl;
     }

@@ -4,16 +4,16 @@ use native.Mathlib.Omega.{arith}
 use Rattle.formats.specs.Formats.{svissr_ones}
 use Rattle.sector_rounds.proofs.Rounds.{holds_back}
 use Rattle.demands.specs.Ones.{Covered}
-use Rattle.demands.proofs.Demand2.{demand-2}
-use Rattle.demands.proofs.Demand3.{demand-3-all}
+use Rattle.demands.proofs.Demand2.{demand_2}
+use Rattle.demands.proofs.Demand3.{demand_3_all}
 use Rattle.demands.proofs.RoundTrip.{round_trip}
 
 pub covered : Covered
 covered =
     record {
       named = refl;
-      demand-3 = demand-3-all 3 svissr_ones refl;
+      demand_3 = demand_3_all 3 svissr_ones refl;
       round_trip = λ setting small ls plain. round_trip 3 svissr_ones refl setting (omega arith) ls plain;
-      demand-2 = demand-2 3 svissr_ones refl;
+      demand_2 = demand_2 3 svissr_ones refl;
       sectors = holds_back 3;
     }

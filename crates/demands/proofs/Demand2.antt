@@ -1,5 +1,5 @@
 -- DEMAND 2: what is put into the sectors of plain lines comes back, through the writer, any cut of its recording, and the reader
--- at any setting (`demand-2`). Assumes nothing.
+-- at any setting (`demand_2`). Assumes nothing.
 use mathlib.Core.List.{List, [], ◌∷◌, ◌++◌, map}
 use mathlib.Core.Path.{◌≡◌, refl, sym, ap, ap₂, subst, ◌∙◌}
 use Prim.Native.Nat.{ℕ, suc, ◌≤◌}
@@ -25,7 +25,7 @@ use Rattle.reader_record.specs.Records.{fresh_state}
 use Rattle.reader_refusals.specs.Refusing.{largest_setting}
 use Rattle.reader_record.specs.declared.State.{State}
 use Rattle.cuts.proofs.Later.{lines_first}
-use Rattle.cuts.proofs.Moments.{full_size, of-the-bytes}
+use Rattle.cuts.proofs.Moments.{full_size, of_the_bytes}
 use Rattle.cuts.proofs.Standing.{line_stands}
 use Rattle.sector_rounds.specs.Puts.{Put, Holds, ComesBack}
 use Rattle.sector_rounds.proofs.Others.{alike_back}
@@ -33,7 +33,7 @@ use Rattle.sector_rounds.proofs.Carried.{Carries, one_of, carries_alike, holds_f
 use Rattle.sector_rounds.proofs.Rounds.{comes_back}
 use Rattle.demands.specs.RoundTrip as trip
 use Rattle.demands.specs.RoundTrip.{PlainLines, recording_of, Recording, ComeBack}
-use Rattle.demands.proofs.InLine.{line-alike}
+use Rattle.demands.proofs.InLine.{line_alike}
 use Rattle.demands.proofs.RoundTrip.{round_trip}
 use Rattle.demands.proofs.Demands.{there_and_back}
 
@@ -43,8 +43,8 @@ use Rattle.demands.proofs.Demands.{there_and_back}
 line_carries : (n k : ℕ) (w : Put) (line buf : List ℕ) → line_bytes ≤ length line → line_bytes ≤ length buf → line_in buf ≡ line_in line
     → 1 ≤ k → k ≤ 12 → Carries n k w (bits_of line) → Carries n k w (bits_of buf)
 line_carries n k w line buf full room same low high c =
-    carries_alike n k w (bits_of buf) (line_in buf) (line-alike buf room k low high)
-    (subst (λ (b : List ℕ). Carries n k w b) (sym same) (carries_alike n k w (line_in line) (bits_of line) (alike_back (line-alike line full k low high)) c))
+    carries_alike n k w (bits_of buf) (line_in buf) (line_alike buf room k low high)
+    (subst (λ (b : List ℕ). Carries n k w b) (sym same) (carries_alike n k w (line_in line) (bits_of line) (alike_back (line_alike line full k low high)) c))
 
 -- ---- the calls of `write_line`
 
@@ -102,21 +102,21 @@ module _ (n : ℕ) (f : Format) (e : format_of n ≡ Is f) (setting : ℕ) (smal
   -- DEMAND 2. What is put into the sectors of plain lines, the lines written, their recording cut in any way and read by a fresh
   -- reader with any full_size buffers: as many lines, the same, and every sector is accepted, has no filler set, and gives the
   -- same data, their spare bits cleared, and the same pixels
-  pub demand-2 : (ps : List (List ℕ)) → in_arow ps ≡ recording → (out : List (List ℕ)) → Driven n setting lend 0 fresh_state first ps out → ComeBack n ls out
-  demand-2 ps cut out d =
+  pub demand_2 : (ps : List (List ℕ)) → in_arow ps ≡ recording → (out : List (List ℕ)) → Driven n setting lend 0 fresh_state first ps out → ComeBack n ls out
+  demand_2 ps cut out d =
       let is = recording_is n f e r in
       let same : out ≡ map line_in ls = (there_and_back n f e n f e setting small lend long first room (map (take line_bytes) ls) is.0 ps (cut ∙ is.1) out).0 d ∙ lines_in_is ls in
       record { same = same; held = λ i sector w buf h full stands. held_back n ls i sector w buf h full (stands ∙ ap (λ (x : List (List ℕ)). get_or x i []) same) }
 
   -- and already while it is read: at every moment at which a line stands whole in the buffer, the i-th handed out, what the sectors
   -- of the i-th line written held comes back from that buffer
-  pub demand-2-standing : {k : ℕ} {s : State} {buf bytes : List ℕ} {out : List (List ℕ)} (m : Moment n setting lend first k s buf bytes out) → Standing m → (rest : List ℕ) → bytes ++ rest ≡ recording
+  pub demand_2_standing : {k : ℕ} {s : State} {buf bytes : List ℕ} {out : List (List ℕ)} (m : Moment n setting lend first k s buf bytes out) → Standing m → (rest : List ℕ) → bytes ++ rest ≡ recording
       → (i : ℕ) → length out ≡ suc i → (sector : ℕ) (w : Put) → Holds n sector w (get_or ls i []) → ComesBack n sector w buf
   unfolding recorded
-  demand-2-standing {buf = buf} {bytes = bytes} {out = out} m whole rest cut i many sector w h =
+  demand_2_standing {buf = buf} {bytes = bytes} {out = out} m whole rest cut i many sector w h =
       let is = recording_is n f e r in
       let l = line_stands m whole in
-      let so : out ≡ recorded setting bytes = of-the-bytes n f e setting small lend long first room m in
+      let so : out ≡ recorded setting bytes = of_the_bytes n f e setting small lend long first room m in
       let all : lines setting (bits_of bytes ++ bits_of rest) ≡ map line_in ls =
       ap (lines setting) (sym (bits_append bytes rest)) ∙ ap (recorded setting) (cut ∙ is.1) ∙ round_trip n f e setting (omega arith) (map (take line_bytes) ls) is.0 ∙ lines_in_is ls in
       let front : out ≡ take (length out) (map line_in ls) =

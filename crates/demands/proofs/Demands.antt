@@ -16,7 +16,7 @@ use Rattle.cuts.specs.Driven.{Driven, line_in}
 use Rattle.reader_bits.specs.Lines.{recorded}
 use Rattle.reader_record.specs.Records.{fresh_state}
 use Rattle.reader_refusals.specs.Refusing.{largest_setting}
-use Rattle.cuts.proofs.Demand.{demand-3}
+use Rattle.cuts.proofs.Demand.{demand_3}
 use Rattle.demands.specs.RoundTrip.{PlainLine, PlainLines, recording_of}
 use Rattle.demands.proofs.RoundTrip.{round_trip}
 
@@ -28,7 +28,7 @@ pub there_and_back : (n : ℕ) (f : Format) → format_of n ≡ Is f → (m : �
     → (ls : List (List ℕ)) → PlainLines ls → (ps : List (List ℕ)) → in_arow ps ≡ recording_of f ls
     → (out : List (List ℕ)) → Driven m setting lend 0 fresh_state buf ps out ↔ (out ≡ map bits_of ls)
 there_and_back n f e m g h setting small lend long buf room ls plain ps cut out =
-    let d = demand-3 m g h setting small lend long buf room ps out in
+    let d = demand_3 m g h setting small lend long buf room ps out in
     let same : recorded setting (in_arow ps) ≡ map bits_of ls = ap (recorded setting) cut ∙ round_trip n f e setting (omega arith) ls plain in
     (λ x. d.0 x ∙ same, λ y. d.1 (y ∙ sym same))
 

@@ -52,7 +52,7 @@ edges =
       P1 = p1;
       P2 = p2;
       P3 = p3;
-      P3-accepted = λ format zero line e. ap (λ (s : ℕ). answer_of s (layout_of 1) line) zero ∙ p3_accepted line (rw (doc_start, doc_bits) e);
+      P3Accepted = λ format zero line e. ap (λ (s : ℕ). answer_of s (layout_of 1) line) zero ∙ p3_accepted line (rw (doc_start, doc_bits) e);
       P4 = λ format zero. from_start format 0 _ zero ∙ p4 18327 doc_data;
       P5 = λ format zero. from_start format 0 _ zero ∙ p5 18326 doc_data;
       P6 = p6;
@@ -61,6 +61,6 @@ edges =
       P9 = p9;
       P10 = p10;
       P11 = p11;
-      P11-refused = p11_refused;
+      P11Refused = p11_refused;
       P12 = p12;
     }

@@ -45,7 +45,7 @@ pub exactly_15 : (f : ℕ) (r : Report) (given : ℕ)
     → (with_line_refusal f r given ≡ 15) ↔ ((format_refusal f ≡ 0) × (possible_report r ≡ true) × (most_lines < r.lines + 1))
 exactly_15 f r given =
     let over = exactly 15 (format_test f ∷ report_test r ∷ []) ((2, ltb given line_bytes) ∷ []) (ltb most_lines (r.lines + 1)) (λ z. omega arith) refl refl in
-    let tests = (orders.with-line f r given).given in
+    let tests = (orders.with_line f r given).given in
     let before = neither (unknown f) (not (possible_report r)) 0 11 in (
       λ e. let h = over.0 (sym tests ∙ e) in
           let p = before.0 h.0 in
@@ -70,7 +70,7 @@ exactly_15_together a b =
 pub exactly_12 : (f : ℕ) (r : Report) (given : ℕ) → (with_line_refusal f r given ≡ 12) ↔ ((format_refusal f ≡ 0) × (possible_report r ≡ false))
 exactly_12 f r given =
     let own = exactly 12 (format_test f ∷ []) (full_test r.lines 1 ∷ (2, ltb given line_bytes) ∷ []) (not (possible_report r)) (λ z. omega arith) refl refl in
-    let tests = (orders.with-line f r given).given in
+    let tests = (orders.with_line f r given).given in
     let format = refused_when f ∙ chain_one (unknown f) 1 in (
       λ e. let h = own.0 (sym tests ∙ e) in (format ∙ h.0, not-true _ h.1),
       λ h. tests ∙ own.1 (sym format ∙ h.0, ap not h.1),

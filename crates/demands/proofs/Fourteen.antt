@@ -33,7 +33,7 @@ pub exactly_14 : (f : ℕ) (a : Assembly) (line : List ℕ) (n : ℕ) (block : L
     ↔ ((carried_refusal f a.marks line n (length block) ≡ 0) × (a.marks.segments ≡ 0 → ⊥) × (revision_of n a.revisions ≡ revision_of n (revisions_in line) → ⊥))
 exactly_14 f a line n block =
     let when-14 = exactly 14 (carried_tests f a.marks line n (length block)) (copy_test n a.marks line block ∷ []) (foreign n a (revisions_in line)) (λ z. omega arith) refl refl in
-    let tests = (orders.add-segment f a line n block).given in
+    let tests = (orders.add_segment f a line n block).given in
     let carried = carried_when f a.marks line n (length block) in
     let told = foreign_when n a (revisions_in line) in (
       λ e. let h = when-14.0 (sym tests ∙ e) in let t = told.0 h.1 in (carried ∙ h.0, t.0, t.1),

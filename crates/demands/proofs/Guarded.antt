@@ -119,36 +119,36 @@ module _ (k : ℕ) (h : k ≤ 6) (sent got : List ℕ) (g : Guarded sent) (n : I
   abbrev x : List ℕ
   x = take m sent
 
-  long-x : length x ≡ m
-  long-x = let l = g.long in length-take-le m sent (omega arith)
+  long_x : length x ≡ m
+  long_x = let l = g.long in length-take-le m sent (omega arith)
 
   sent_is : (j : ℕ) → j ≤ m → drop j sent ≡ drop j x ++ drop m sent
-  sent_is j le = ap (drop j) (sym (take-append-drop m sent)) ∙ drop-append-le j x (drop m sent) (omega (arith, long-x))
+  sent_is j le = ap (drop j) (sym (take-append-drop m sent)) ∙ drop-append-le j x (drop m sent) (omega (arith, long_x))
 
-  got-is : (j : ℕ) → j ≤ m → drop j got ≡ drop j x ++ drop m got
-  got-is j le =
+  got_is : (j : ℕ) → j ≤ m → drop j got ≡ drop j x ++ drop m got
+  got_is j le =
       ap (drop j) (sym (take-append-drop m got) ∙ ap (λ (y : List ℕ). y ++ drop m got) n.before)
-      ∙ drop-append-le j x (drop m got) (omega (arith, long-x))
+      ∙ drop-append-le j x (drop m got) (omega (arith, long_x))
 
   -- a window clear of the tail is as it was sent; one that overlaps it is thirteen places or more away
   each : (j : ℕ) → j + 64 < length sent → (t : Bool) → leb (j + 128) (length sent) ≡ t
       → apart (take 64 (drop j sent)) (take 64 (drop j got)) + k < apart tail (take 64 (drop j sent))
   each j lt true e =
       let l = leb-true (j + 128) (length sent) e in
-      let long : 64 ≤ length (drop j x) = omega (arith, length-drop j x, long-x) in
+      let long : 64 ≤ length (drop j x) = omega (arith, length-drop j x, long_x) in
       let s : take 64 (drop j sent) ≡ take 64 (drop j x) = ap (take 64) (sent_is j (omega arith)) ∙ take-append-le 64 (drop j x) (drop m sent) long in
-      let r : take 64 (drop j got) ≡ take 64 (drop j x) = ap (take 64) (got-is j (omega arith)) ∙ take-append-le 64 (drop j x) (drop m got) long in
+      let r : take 64 (drop j got) ≡ take 64 (drop j x) = ap (take 64) (got_is j (omega arith)) ∙ take-append-le 64 (drop j x) (drop m got) long in
       let z : apart (take 64 (drop j sent)) (take 64 (drop j got)) ≡ 0 = ap₂ apart s r ∙ apart_self (take 64 (drop j x)) in
       omega (arith, g.far j lt)
   each j lt false e =
       let l = leb-false (j + 128) (length sent) e in
       let z : apart (drop j sent) (drop j got) ≡ apart (drop m sent) (drop m got) =
-      ap₂ apart (sent_is j (omega arith)) (got-is j (omega arith)) ∙ apart_front (drop j x) (drop m sent) (drop m got) in
+      ap₂ apart (sent_is j (omega arith)) (got_is j (omega arith)) ∙ apart_front (drop j x) (drop m sent) (drop m got) in
       omega (arith, apart_take_le 64 (drop j sent) (drop j got), n.last, close sent g j lt l)
 
   -- AT MOST k WRONG BITS IN THE TAIL, k up to 6, and none before it
-  pub in-tail-leading : Leading k sent got
-  in-tail-leading = record { long = n.long; last = n.last; earlier = λ j lt. each j lt (leb (j + 128) (length sent)) refl }
+  pub in_tail_leading : Leading k sent got
+  in_tail_leading = record { long = n.long; last = n.last; earlier = λ j lt. each j lt (leb (j + 128) (length sent)) refl }
 
 -- ---- nothing wrong
 
@@ -176,20 +176,20 @@ module _ (n : ℕ) (f : Format) (e : format_of n ≡ Is f) where
   abbrev dummy : List ℕ
   dummy = dummy_of information_bits f.dummy
 
-  pub sync-guarded : Guarded (SYNC f.sync)
+  pub sync_guarded : Guarded (SYNC f.sync)
   unfolding first_searched
-  sync-guarded =
+  sync_guarded =
       let h = long_enough n f e in
       let l = length_sync f.sync in
       record {
         long = omega arith;
-        far = λ j lt. (earlier_apart n f e).before-first j (omega arith);
+        far = λ j lt. (earlier_apart n f e).before_first j (omega arith);
         ends = ap (λ (x : ℕ). drop (x - 127) (SYNC f.sync)) l ∙ sync_end f h;
       }
 
-  pub dummy-guarded : Guarded (dummy ++ SYNC f.sync)
+  pub dummy_guarded : Guarded (dummy ++ SYNC f.sync)
   unfolding next_searched
-  dummy-guarded =
+  dummy_guarded =
       let h = long_enough n f e in
       let l : length (dummy ++ SYNC f.sync) ≡ f.dummy + f.sync =
       length-append dummy (SYNC f.sync) ∙ ap₂ (λ (x y : ℕ). x + y) (length_dummy f) (length_sync f.sync) in
@@ -197,13 +197,13 @@ module _ (n : ℕ) (f : Format) (e : format_of n ≡ Is f) where
       let p : length (dummy ++ SYNC f.sync) - 127 ≡ length dummy + (f.sync - 127) = omega arith in
       record {
         long = omega arith;
-        far = λ j lt. (earlier_apart n f e).before-next j (omega arith);
+        far = λ j lt. (earlier_apart n f e).before_next j (omega arith);
         ends = ap (λ (x : ℕ). drop x (dummy ++ SYNC f.sync)) p ∙ drop-append-add dummy (SYNC f.sync) (f.sync - 127) ∙ sync_end f h;
       }
 
   -- too short for a line
-  pub dummy-short : length dummy < information_bits
-  dummy-short = rw (length_dummy f) (short n f e)
+  pub dummy_short : length dummy < information_bits
+  dummy_short = rw (length_dummy f) (short n f e)
     where
       short : (n : ℕ) (f : Format) → format_of n ≡ Is f → f.dummy < information_bits
       short = of_each (λ f. f.dummy < information_bits) (lit< tt) (lit< tt) (lit< tt)

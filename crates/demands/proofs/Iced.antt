@@ -1,7 +1,7 @@
 -- THE ICED DISH: of a written recording with wrong bits, as long as each tail has at most k and each earlier searched window at most
--- 8 - k, the setting k finds exactly the lines of the information bits as they were received (`iced-dish`); so for k up to 4 with
--- at most k wrong bits in any 64 neighbouring bits of what is searched (`iced-evenly`), and for k up to 6 with at most k wrong bits
--- in each tail and none before it (`iced-tails`). What is written is such a run with nothing wrong (`sent-bits`, `unwronged`).
+-- 8 - k, the setting k finds exactly the lines of the information bits as they were received (`iced_dish`); so for k up to 4 with
+-- at most k wrong bits in any 64 neighbouring bits of what is searched (`iced_evenly`), and for k up to 6 with at most k wrong bits
+-- in each tail and none before it (`iced_tails`). What is written is such a run with nothing wrong (`sent_bits`, `unwronged`).
 -- Assumes nothing.
 use mathlib.Core.List.{List, [], ◌∷◌, ◌++◌, map, append_assoc, append-nil}
 use mathlib.Core.Logic.{◌↔◌}
@@ -24,13 +24,13 @@ use Rattle.reader_bits.specs.Lines.{window_bits, is_tail, lines, recorded}
 use Rattle.reader_record.specs.Records.{fresh_state}
 use Rattle.reader_refusals.specs.Refusing.{largest_setting}
 use Rattle.cuts.specs.Driven.{Driven}
-use Rattle.cuts.proofs.Demand.{demand-3}
+use Rattle.cuts.proofs.Demand.{demand_3}
 use Rattle.writer.specs.Wire.{on_wire, wire_bytes}
 use Rattle.demands.specs.Iced.{Received, received_of, sent_of, cut_of, Iced, Leading, Near, Even, InTail}
 use Rattle.demands.specs.RoundTrip.{PlainLines, recording_of}
-use Rattle.demands.proofs.Guarded.{some_bits, Guarded, leading_leads, near_leading, even_near, in-tail-leading, same_near, sync-guarded, dummy-guarded, dummy-short}
+use Rattle.demands.proofs.Guarded.{some_bits, Guarded, leading_leads, near_leading, even_near, in_tail_leading, same_near, sync_guarded, dummy_guarded, dummy_short}
 use Rattle.demands.proofs.RoundTrip.{wire_bits}
-use Rattle.demands.proofs.Run.{found_none, found-line}
+use Rattle.demands.proofs.Run.{found_none, found_line}
 
 -- the lines of the information bits
 abbrev pub lines_in : List Received → List (List ℕ)
@@ -43,58 +43,58 @@ module _ (n : ℕ) (f : Format) (e : format_of n ≡ Is f) where
   regroup : (got s i d rest : List ℕ) → got ++ ((s ++ i ++ d) ++ rest) ≡ (got ++ s) ++ (i ++ (d ++ rest))
   regroup got s i d rest = simp append_assoc
 
-  iced-behind : (k : ℕ) (sent got : List ℕ) (rs : List Received) → Guarded (sent ++ SYNC f.sync) → length sent < information_bits
+  iced_behind : (k : ℕ) (sent got : List ℕ) (rs : List Received) → Guarded (sent ++ SYNC f.sync) → length sent < information_bits
       → Iced (Leading k) f sent got rs → lines k (got ++ received_of rs) ≡ lines_in rs
   unfolding lines received_of Iced
-  iced-behind k sent got [] g short i =
+  iced_behind k sent got [] g short i =
       ap (lines k) (append-nil got) ∙ found_none window_bits (is_tail k) some_bits information_bits line_of got (omega arith)
-  iced-behind k sent got (r ∷ rs) g short i =
+  iced_behind k sent got (r ∷ rs) g short i =
       ap (lines k) (regroup got r.sync r.information r.dummy (received_of rs))
-      ∙ found-line window_bits (is_tail k) some_bits information_bits line_of (length (sent ++ SYNC f.sync) - 64) (got ++ r.sync) r.information (r.dummy ++ received_of rs)
+      ∙ found_line window_bits (is_tail k) some_bits information_bits line_of (length (sent ++ SYNC f.sync) - 64) (got ++ r.sync) r.information (r.dummy ++ received_of rs)
       (leading_leads k (sent ++ SYNC f.sync) (got ++ r.sync) g i.0) i.1
-      ∙ ap (λ (ls : List (List ℕ)). line_of r.information ∷ ls) (iced-behind k dummy r.dummy rs (dummy-guarded n f e) (dummy-short n f e) i.2)
+      ∙ ap (λ (ls : List (List ℕ)). line_of r.information ∷ ls) (iced_behind k dummy r.dummy rs (dummy_guarded n f e) (dummy_short n f e) i.2)
 
   -- as long as each tail is still found, and no other place
-  pub leading-dish : (k : ℕ) (rs : List Received) → Iced (Leading k) f [] [] rs → lines k (received_of rs) ≡ lines_in rs
-  leading-dish k rs i = iced-behind k [] [] rs (sync-guarded n f e) (lit< tt) i
+  pub leading_dish : (k : ℕ) (rs : List Received) → Iced (Leading k) f [] [] rs → lines k (received_of rs) ≡ lines_in rs
+  leading_dish k rs i = iced_behind k [] [] rs (sync_guarded n f e) (lit< tt) i
 
   -- ---- from one kind of wrong bits to another
 
-  iced-map : (P Q : (sent got : List ℕ) → Type 0) → ((sent got : List ℕ) → Guarded sent → P sent got → Q sent got)
+  iced_map : (P Q : (sent got : List ℕ) → Type 0) → ((sent got : List ℕ) → Guarded sent → P sent got → Q sent got)
       → (sent got : List ℕ) (rs : List Received) → Guarded (sent ++ SYNC f.sync) → Iced P f sent got rs → Iced Q f sent got rs
   unfolding Iced
-  iced-map P Q m sent got [] g i = i
-  iced-map P Q m sent got (r ∷ rs) g i =
-      (m (sent ++ SYNC f.sync) (got ++ r.sync) g i.0, i.1, iced-map P Q m dummy r.dummy rs (dummy-guarded n f e) i.2)
+  iced_map P Q m sent got [] g i = i
+  iced_map P Q m sent got (r ∷ rs) g i =
+      (m (sent ++ SYNC f.sync) (got ++ r.sync) g i.0, i.1, iced_map P Q m dummy r.dummy rs (dummy_guarded n f e) i.2)
 
-  iced-as : (P Q : (sent got : List ℕ) → Type 0) → ((sent got : List ℕ) → Guarded sent → P sent got → Q sent got) → (rs : List Received) → Iced P f [] [] rs → Iced Q f [] [] rs
-  iced-as P Q m rs i = iced-map P Q m [] [] rs (sync-guarded n f e) i
+  iced_as : (P Q : (sent got : List ℕ) → Type 0) → ((sent got : List ℕ) → Guarded sent → P sent got → Q sent got) → (rs : List Received) → Iced P f [] [] rs → Iced Q f [] [] rs
+  iced_as P Q m rs i = iced_map P Q m [] [] rs (sync_guarded n f e) i
 
   pub near : (k : ℕ) (rs : List Received) → Iced (Near k) f [] [] rs → Iced (Leading k) f [] [] rs
-  near k rs i = iced-as (Near k) (Leading k) (near_leading k) rs i
+  near k rs i = iced_as (Near k) (Leading k) (near_leading k) rs i
 
   pub evenly : (k : ℕ) → k ≤ 4 → (rs : List Received) → Iced (Even k) f [] [] rs → Iced (Leading k) f [] [] rs
-  evenly k h rs i = near k rs (iced-as (Even k) (Near k) (even_near k h) rs i)
+  evenly k h rs i = near k rs (iced_as (Even k) (Near k) (even_near k h) rs i)
 
-  pub in-tails : (k : ℕ) → k ≤ largest_setting → (rs : List Received) → Iced (InTail k) f [] [] rs → Iced (Leading k) f [] [] rs
-  in-tails k h rs i = iced-as (InTail k) (Leading k) (in-tail-leading k h) rs i
+  pub in_tails : (k : ℕ) → k ≤ largest_setting → (rs : List Received) → Iced (InTail k) f [] [] rs → Iced (Leading k) f [] [] rs
+  in_tails k h rs i = iced_as (InTail k) (Leading k) (in_tail_leading k h) rs i
 
   -- THE ICED DISH
-  pub iced-dish : (k : ℕ) (rs : List Received) → Iced (Near k) f [] [] rs → lines k (received_of rs) ≡ lines_in rs
-  iced-dish k rs i = leading-dish k rs (near k rs i)
+  pub iced_dish : (k : ℕ) (rs : List Received) → Iced (Near k) f [] [] rs → lines k (received_of rs) ≡ lines_in rs
+  iced_dish k rs i = leading_dish k rs (near k rs i)
 
   -- AT MOST k WRONG BITS IN ANY 64 NEIGHBOURS of what is searched, k up to 4
-  pub iced-evenly : (k : ℕ) → k ≤ 4 → (rs : List Received) → Iced (Even k) f [] [] rs → lines k (received_of rs) ≡ lines_in rs
-  iced-evenly k h rs i = leading-dish k rs (evenly k h rs i)
+  pub iced_evenly : (k : ℕ) → k ≤ 4 → (rs : List Received) → Iced (Even k) f [] [] rs → lines k (received_of rs) ≡ lines_in rs
+  iced_evenly k h rs i = leading_dish k rs (evenly k h rs i)
 
   -- AT MOST k WRONG BITS IN EACH TAIL and none before it, k up to 6, as `signal` makes them
-  pub iced-tails : (k : ℕ) → k ≤ largest_setting → (rs : List Received) → Iced (InTail k) f [] [] rs → lines k (received_of rs) ≡ lines_in rs
-  iced-tails k h rs i = leading-dish k rs (in-tails k h rs i)
+  pub iced_tails : (k : ℕ) → k ≤ largest_setting → (rs : List Received) → Iced (InTail k) f [] [] rs → lines k (received_of rs) ≡ lines_in rs
+  iced_tails k h rs i = leading_dish k rs (in_tails k h rs i)
 
   -- where the information bits are those of written lines: exactly the written lines
-  pub iced-written : (k : ℕ) (rs : List Received) (ls : List (List ℕ)) → map (λ (r : Received). r.information) rs ≡ map (λ (l : List ℕ). information_of (bits_of l)) ls
+  pub iced_written : (k : ℕ) (rs : List Received) (ls : List (List ℕ)) → map (λ (r : Received). r.information) rs ≡ map (λ (l : List ℕ). information_of (bits_of l)) ls
       → Iced (Near k) f [] [] rs → lines k (received_of rs) ≡ map bits_of ls
-  iced-written k rs ls same i = iced-dish k rs i ∙ split rs ∙ ap (map line_of) same ∙ back ls
+  iced_written k rs ls same i = iced_dish k rs i ∙ split rs ∙ ap (map line_of) same ∙ back ls
     where
       split : (rs : List Received) → lines_in rs ≡ map line_of (map (λ (r : Received). r.information) rs)
       split [] = refl
@@ -130,18 +130,18 @@ module _ (n : ℕ) (f : Format) (e : format_of n ≡ Is f) where
       ap (λ (x : List ℕ). (take f.sync got ++ take information_bits r1 ++ take f.dummy r2) ++ x) here
       ∙ put_back f.sync information_bits f.dummy got
 
-  pub iced-bits : (k m : ℕ) (got : List ℕ) → length got ≡ m * (f.sync + information_bits + f.dummy) → Iced (Near k) f [] [] (cut_of f m got)
+  pub iced_bits : (k m : ℕ) (got : List ℕ) → length got ≡ m * (f.sync + information_bits + f.dummy) → Iced (Near k) f [] [] (cut_of f m got)
       → lines k got ≡ lines_in (cut_of f m got)
-  iced-bits k m got l i = ap (lines k) (sym (cut-whole m got l)) ∙ iced-dish k (cut_of f m got) i
+  iced_bits k m got l i = ap (lines k) (sym (cut-whole m got l)) ∙ iced_dish k (cut_of f m got) i
 
   -- ---- what is written is such a run, with nothing wrong at any setting below nine
 
-  pub sent-bits : (ls : List (List ℕ)) → PlainLines ls → bits_of (recording_of f ls) ≡ received_of (map (sent_of f) ls)
+  pub sent_bits : (ls : List (List ℕ)) → PlainLines ls → bits_of (recording_of f ls) ≡ received_of (map (sent_of f) ls)
   unfolding recording_of PlainLines received_of on_wire
-  sent-bits [] p = unfold bits_of packed_of in refl
-  sent-bits (l ∷ ls) p =
+  sent_bits [] p = unfold bits_of packed_of in refl
+  sent_bits (l ∷ ls) p =
       bits_append (wire_bytes f l) (recording_of f ls)
-      ∙ ap₂ (λ (x y : List ℕ). x ++ y) (wire_bits n f l e p.0) (sent-bits ls p.1)
+      ∙ ap₂ (λ (x y : List ℕ). x ++ y) (wire_bits n f l e p.0) (sent_bits ls p.1)
 
   pub unwronged : (k : ℕ) → k < 9 → (sent : List ℕ) (ls : List (List ℕ)) → PlainLines ls → Iced (Near k) f sent sent (map (sent_of f) ls)
   unfolding Iced PlainLines information_of
@@ -152,17 +152,17 @@ module _ (n : ℕ) (f : Format) (e : format_of n ≡ Is f) where
   -- ---- read
 
   -- A READER AT THE SETTING k hands out of such a recording, cut in any way, exactly the lines of its information bits
-  pub iced-read : (k : ℕ) → k ≤ largest_setting
+  pub iced_read : (k : ℕ) → k ≤ largest_setting
       → (lend : ℕ → List ℕ → List ℕ) → ((j : ℕ) (buf : List ℕ) → 44356 ≤ length buf → 44356 ≤ length (lend j buf)) → (buf : List ℕ) → 44356 ≤ length buf
       → (rs : List Received) → Iced (Leading k) f [] [] rs → (ps : List (List ℕ)) → bits_of (in_arow ps) ≡ received_of rs
       → (out : List (List ℕ)) → Driven n k lend 0 fresh_state buf ps out ↔ (out ≡ lines_in rs)
-  iced-read k small lend long buf room rs iced ps cut out =
-      let d = demand-3 n f e k small lend long buf room ps out in
-      let same : recorded k (in_arow ps) ≡ lines_in rs = unfold recorded in ap (lines k) cut ∙ leading-dish k rs iced in
+  iced_read k small lend long buf room rs iced ps cut out =
+      let d = demand_3 n f e k small lend long buf room ps out in
+      let same : recorded k (in_arow ps) ≡ lines_in rs = unfold recorded in ap (lines k) cut ∙ leading_dish k rs iced in
       (λ x. d.0 x ∙ same, λ y. d.1 (y ∙ sym same))
 
   -- SETTING 4: up to four wrong bits in any 64 of SYNC and dummy never cost a line and never make a false one
-  pub setting-four : (lend : ℕ → List ℕ → List ℕ) → ((j : ℕ) (buf : List ℕ) → 44356 ≤ length buf → 44356 ≤ length (lend j buf)) → (buf : List ℕ) → 44356 ≤ length buf
+  pub setting_four : (lend : ℕ → List ℕ → List ℕ) → ((j : ℕ) (buf : List ℕ) → 44356 ≤ length buf → 44356 ≤ length (lend j buf)) → (buf : List ℕ) → 44356 ≤ length buf
       → (rs : List Received) → Iced (Even 4) f [] [] rs → (ps : List (List ℕ)) → bits_of (in_arow ps) ≡ received_of rs
       → (out : List (List ℕ)) → Driven n 4 lend 0 fresh_state buf ps out ↔ (out ≡ lines_in rs)
-  setting-four lend long buf room rs iced ps cut out = iced-read 4 (omega arith) lend long buf room rs (evenly 4 (omega arith) rs iced) ps cut out
+  setting_four lend long buf room rs iced ps cut out = iced_read 4 (omega arith) lend long buf room rs (evenly 4 (omega arith) rs iced) ps cut out

@@ -32,41 +32,41 @@ module _ (buf : List ℕ) (long : line_bytes ≤ length buf) where
   unfolding line_in
   line_first = bits_take buf line_bytes
 
-  enough-bits : information_bits ≤ length (bits_of buf)
-  enough-bits = omega (arith, length_bits buf)
+  enough_bits : information_bits ≤ length (bits_of buf)
+  enough_bits = omega (arith, length_bits buf)
 
   in_line : (at k : ℕ) → at + k ≤ information_bits → stretch (bits_of buf) at k ≡ stretch (line_in buf) at k
-  in_line at k h = stretch_first (bits_of buf) information_bits at k enough-bits h ∙ ap (λ (x : List ℕ). stretch x at k) line_first
+  in_line at k h = stretch_first (bits_of buf) information_bits at k enough_bits h ∙ ap (λ (x : List ℕ). stretch x at k) line_first
 
   module _ (l : Layout) (s : Sound l) where
     line_bits : data_bits_of l (bits_of buf) ≡ data_bits_of l (line_in buf)
     unfolding data_bits_of
     line_bits = in_line (data_at l) l.data_bits (omega (arith, s.whole, s.inside))
 
-    pub line-answer : (start : ℕ) → answer_of start l (bits_of buf) ≡ answer_of start l (line_in buf)
+    pub line_answer : (start : ℕ) → answer_of start l (bits_of buf) ≡ answer_of start l (line_in buf)
     unfolding answer_of covered_of id_of
-    line-answer start =
+    line_answer start =
         let covered = in_line l.start (covered_bits l) (omega (arith, s.whole, s.inside)) in
         let id = in_line l.start l.id_bits (omega (arith, s.whole, s.inside)) in
         rw (covered, id)
 
-    pub line-filler : filler_of l (bits_of buf) ≡ filler_of l (line_in buf)
+    pub line_filler : filler_of l (bits_of buf) ≡ filler_of l (line_in buf)
     unfolding filler_of
-    line-filler = ap set_bits (in_line (filler_at l) filler_bits (omega (arith, s.whole, s.inside)))
+    line_filler = ap set_bits (in_line (filler_at l) filler_bits (omega (arith, s.whole, s.inside)))
 
-    pub line-data : data_of l (bits_of buf) ≡ data_of l (line_in buf)
+    pub line_data : data_of l (bits_of buf) ≡ data_of l (line_in buf)
     unfolding data_of
-    line-data = rw line_bits
+    line_data = rw line_bits
 
-    pub line-pixels : pixels_of l (bits_of buf) ≡ pixels_of l (line_in buf)
+    pub line_pixels : pixels_of l (bits_of buf) ≡ pixels_of l (line_in buf)
     unfolding pixels_of
-    line-pixels = rw line_bits
+    line_pixels = rw line_bits
 
   -- the same of sector n, all at once
-  pub line-alike : (n : ℕ) → 1 ≤ n → n ≤ 12 → Alike n (bits_of buf) (line_in buf)
-  line-alike n low high =
+  pub line_alike : (n : ℕ) → 1 ≤ n → n ≤ 12 → Alike n (bits_of buf) (line_in buf)
+  line_alike n low high =
       let s = sound n low high in
-      record { answer = line-answer (layout_of n) s; filler = line-filler (layout_of n) s; bytes = line-data (layout_of n) s; pixels = line-pixels (layout_of n) s }
+      record { answer = line_answer (layout_of n) s; filler = line_filler (layout_of n) s; bytes = line_data (layout_of n) s; pixels = line_pixels (layout_of n) s }
 
 -- each joined pixel: four times the upper part plus the lower part
 pub joined_at : (xs ys : List ℕ) (i : ℕ) → length xs ≡ length ys → i < length xs → get_or (joined_of xs ys) i 0 ≡ 4 * get_or xs i 0 + get_or ys i 0

@@ -30,15 +30,15 @@ at_2 = refl
 
 nine_1 : Windows svissr → Smallest svissr 9
 unfolding first_searched
-nine_1 w = record { before-first = w.before-first; before-next = w.before-next; place = 5782; before = lit< tt; met = at_1 }
+nine_1 w = record { before_first = w.before_first; before_next = w.before_next; place = 5782; before = lit< tt; met = at_1 }
 
 nine_2 : Windows hirid → Smallest hirid 9
 unfolding first_searched
-nine_2 w = record { before-first = w.before-first; before-next = w.before-next; place = 5409; before = lit< tt; met = at_2 }
+nine_2 w = record { before_first = w.before_first; before_next = w.before_next; place = 5409; before = lit< tt; met = at_2 }
 
 nine_3 : Windows svissr_ones → Smallest svissr_ones 9
 unfolding first_searched
-nine_3 w = record { before-first = w.before-first; before-next = w.before-next; place = 5782; before = lit< tt; met = at_1 }
+nine_3 w = record { before_first = w.before_first; before_next = w.before_next; place = 5782; before = lit< tt; met = at_1 }
 
 -- THE NUMBER
 pub nine : (n : ℕ) (f : Format) → format_of n ≡ Is f → Smallest f 9
@@ -47,8 +47,8 @@ nine n f e = of_each (λ g. Windows g → Smallest g 9) nine_1 nine_2 nine_3 n f
 -- and there is one such number
 pub only_one : {f : Format} {a b : ℕ} → Smallest f a → Smallest f b → a ≡ b
 only_one x y =
-    let p = x.before-first y.place y.before in
-    let q = y.before-first x.place x.before in
+    let p = x.before_first y.place y.before in
+    let q = y.before_first x.place x.before in
     omega (arith, p, q, x.met, y.met)
 
 -- at the setting 9 a window before the true one counts as the tail

@@ -14,7 +14,7 @@ use Rattle.reader_bits.specs.Lines.{recorded}
 use Rattle.reader_record.specs.declared.State.{State}
 use Rattle.reader_refusals.specs.Refusing.{largest_setting}
 use Rattle.cuts.specs.Driven.{line_in, Moment, Standing}
-use Rattle.cuts.proofs.Moments.{of-the-bytes}
+use Rattle.cuts.proofs.Moments.{of_the_bytes}
 use Rattle.cuts.proofs.Standing.{line_stands}
 use Rattle.sector_table.specs.declared.layout.Layout.{Layout}
 use Rattle.sector_table.specs.Layout.{sectors, layout_of, upper_of, lower_of}
@@ -28,7 +28,7 @@ use Rattle.channels.specs.Join.{joined_left}
 use Rattle.sector_check.proofs.Pairs.{as_many, length_joined}
 use Rattle.refusals.proofs.Words.{kept_none, none_first}
 use Rattle.demands.specs.OneLine.{OneLine}
-use Rattle.demands.proofs.InLine.{line-pixels, joined_at}
+use Rattle.demands.proofs.InLine.{line_pixels, joined_at}
 
 pixels_many : (l : Layout) (b : List ℕ) → length (pixels_of l b) ≡ l.count
 unfolding pixels_of
@@ -44,8 +44,8 @@ pub joined_pixel_is : (f channel : ℕ) (buf out : List ℕ) → joined_answer f
 unfolding joined_left joined_answer
 joined_pixel_is f channel buf out e i h =
     let a = admitted f 1 3 channel (length buf) (none_first (line_refusal f 1 3 channel (length buf)) _ e) in
-    let up = line-pixels buf a.long (upper_of channel) (sound (channel + 1) (omega (arith, a.low)) (omega (arith, a.high))) in
-    let down = line-pixels buf a.long (lower_of channel) (sound (channel + 8) (omega (arith, a.low)) (omega (arith, a.high))) in
+    let up = line_pixels buf a.long (upper_of channel) (sound (channel + 1) (omega (arith, a.low)) (omega (arith, a.high))) in
+    let down = line_pixels buf a.long (lower_of channel) (sound (channel + 8) (omega (arith, a.low)) (omega (arith, a.high))) in
     let xs : List ℕ = pixels_of (upper_of channel) (line_in buf) in
     let ys : List ℕ = pixels_of (lower_of channel) (line_in buf) in
     let lx : length xs ≡ 2291 = pixels_many (upper_of channel) (line_in buf) ∙ upper_count channel a.low a.high in
@@ -65,7 +65,7 @@ a_line_is_a_line f format ok setting small lend long first room {buf = buf} m wh
     record {
       before = l.before;
       line = line_in buf;
-      last = sym (of-the-bytes f format ok setting small lend long first room m) ∙ l.all;
+      last = sym (of_the_bytes f format ok setting small lend long first room m) ∙ l.all;
       stands = refl;
       joined = λ channel out e i h. joined_pixel_is f channel buf out e i h;
     }

@@ -105,18 +105,18 @@ pub ones : Ones
 ones =
     record {
       as_before = λ n other. rw (ne_eqb n 3 other) refl;
-      was-refused = refl;
+      was_refused = refl;
       start_1 = start_1;
       start_2 = start_2;
       start_3 = start_3;
       inverts = λ bits b. subst (λ (s : ℕ). IsRemainder (inverted bits) (remainder_of s bits)) (sym start_3) (remainder_ones bits b);
       visible = visible_sixteen;
       word = from_start 3 0xffff _ start_3 ∙ ones_3;
-      word-last = from_start 3 0xffff _ start_3 ∙ ones_4;
-      word-before = from_start 3 0xffff _ start_3 ∙ ones_5;
+      word_last = from_start 3 0xffff _ start_3 ∙ ones_4;
+      word_before = from_start 3 0xffff _ start_3 ∙ ones_5;
       refused = refused_3;
-      accepted-1 = λ line full e. accepts 1 0 line served_1 full (edges.P3-accepted 1 start_1 (bits_of line) e);
-      accepted-2 = λ line full e. accepts 2 0 line served_2 full (edges.P3-accepted 2 start_2 (bits_of line) e);
-      accepted-3 = λ line full e. accepts 3 5 line served_3 full (refused_3 (bits_of line) e);
+      accepted_1 = λ line full e. accepts 1 0 line served_1 full (edges.P3Accepted 1 start_1 (bits_of line) e);
+      accepted_2 = λ line full e. accepts 2 0 line served_2 full (edges.P3Accepted 2 start_2 (bits_of line) e);
+      accepted_3 = λ line full e. accepts 3 5 line served_3 full (refused_3 (bits_of line) e);
       put_3 = λ line full. (puts line full, put_word line full);
     }

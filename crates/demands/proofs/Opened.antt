@@ -58,7 +58,7 @@ opened n f rest e h =
     let count : f.bytes ≡ f.sync / 8 + (4 + more) = omega (arith, p.all) in
     let long : length info ≡ information_bits = length_wire 0 _ plain ∙ line_bits line h in
     let behind : drop (f.sync / 8 * 8) (SYNC f.sync ++ info ++ dummy) ≡ info ++ dummy =
-    ap (drop (f.sync / 8 * 8)) (append_assoc (SYNC f.sync) info dummy) ∙ drop_at (SYNC f.sync) (info ++ dummy) (f.sync / 8 * 8) (length_sync f.sync ∙ p.sync-whole) in
+    ap (drop (f.sync / 8 * 8)) (append_assoc (SYNC f.sync) info dummy) ∙ drop_at (SYNC f.sync) (info ++ dummy) (f.sync / 8 * 8) (length_sync f.sync ∙ p.sync_whole) in
     let opening : take 32 info ≡ bits_of four = edges.P2 (take 44352 rest) in
     let split : info ++ dummy ≡ bits_of four ++ (drop 32 info ++ dummy) =
     ap (λ (x : List ℕ). x ++ dummy) (sym (take-append-drop 32 info) ∙ ap (λ (x : List ℕ). x ++ drop 32 info) opening)

@@ -153,44 +153,44 @@ added_when f a line n block =
 pub orders : Orders
 unfolding first_of short_of outside_of with_line_refusal together_refusal fresh_answer count_refusal record_refusal full_refusal step_refusal put_sync_refusal filler_refusal integer_field_refusal bcd_field_refusal real_field_refusal read_refusal write_line_refusal accepted_answer line_refusal asked_of answer_of answers_refusal values_refusal data_answer pixels_answer joined_answer strip_refusal input_short put_data_answer read_integer_refusal read_bcd_refusal read_real_refusal form_refusal put_real_refusal put_pixels_answer line_numbers_refusal date_refusal doc_part sub_commutation_refusal segment_refusal marks_refusal block_refusal unfinished_refusal entry_refusal grid_refusal level_refusal
 orders = record {
-  format-of = λ f. record { by-table = refl; given = simp (refused_when, first_zero) refl };
-  step = λ register. record { by-table = refl; given = sym (first_zero _) };
-  put-sync = λ f given. record { by-table = refl; given = simp (refused_when, first_zero) refl };
-  read = λ f k s given. record { by-table = refl; given = simp (refused_when, first_zero) refl };
-  write-line = λ f long given. record { by-table = refl; given = simp (refused_when, first_zero) refl };
-  accepted = λ f line n. record { by-table = refl; given = simp (refused_when, first_assoc, first_zero) refl };
-  answers = λ f given. record { by-table = refl; given = simp (refused_when, first_zero) refl };
-  filler = λ f line n. record { by-table = refl; given = simp (refused_when, first_assoc, first_zero) refl };
-  data_of = λ f line n given. record { by-table = refl; given = simp (refused_when, first_assoc, first_zero) refl };
-  pixels = λ lo hi f line n given. record { by-table = refl; given = simp (refused_when, first_assoc, first_zero) refl };
-  joined = λ f line c given. record { by-table = refl; given = simp (refused_when, first_assoc, first_zero) refl };
-  strip = λ f long given. record { by-table = refl; given = simp (refused_when, first_zero) refl };
-  put-pixels = λ lo hi f long n ps. record { by-table = refl; given = simp (refused_when, over_when, first_assoc, first_zero) refl };
-  put-data = λ f long n given. record { by-table = refl; given = simp (refused_when, first_assoc, first_zero) refl };
-  with-line = λ f r given. record { by-table = refl; given = simp (refused_when, first_zero) refl };
-  together = λ a b. record { by-table = refl; given = simp (first_assoc, first_zero) refl };
-  fresh-desk = λ count. record { by-table = refl; given = simp (first_zero) refl };
-  take = λ d area. record { by-table = refl; given = take_tests_is d area };
-  publish = λ d area i n. record { by-table = refl; given = publish_tests d area i n };
-  release = λ d area c i n. record { by-table = refl; given = release_tests d area c i n };
-  read-integer = λ n given. record { by-table = refl; given = simp first_zero refl };
-  read-bcd = λ n bytes. record { by-table = refl; given = simp first_zero refl };
-  read_real = λ n m given. record { by-table = refl; given = simp first_zero refl };
-  put-real = λ magnitude n m room. record { by-table = refl; given = simp first_zero refl };
-  modes = λ f line. record { by-table = refl; given = doc_when f line };
-  line-numbers = λ f line. record { by-table = refl; given = behind_doc f line (counts_refusal line) (count_tests line) (counts_when line) };
-  date = λ f line. record { by-table = refl; given = behind_doc f line (date_in_refusal (doc_part line 20 8)) (date_tests (doc_part line 20 8)) (λ h. dates_when (doc_part line 20 8) (stretch_length line 19 8 (omega arith))) };
-  sub-commutation = λ f line. record { by-table = refl; given = behind_doc f line _ (segment_test line ∷ []) (λ h. sym (first_zero _)) };
-  integer-field = λ f line p n. record { by-table = refl; given = field_when (outside 1 4 n) f line p n };
-  bcd-field = λ f line p n.
+  format-of = λ f. record { by_table = refl; given = simp (refused_when, first_zero) refl };
+  step = λ register. record { by_table = refl; given = sym (first_zero _) };
+  put_sync = λ f given. record { by_table = refl; given = simp (refused_when, first_zero) refl };
+  read = λ f k s given. record { by_table = refl; given = simp (refused_when, first_zero) refl };
+  write_line = λ f long given. record { by_table = refl; given = simp (refused_when, first_zero) refl };
+  accepted = λ f line n. record { by_table = refl; given = simp (refused_when, first_assoc, first_zero) refl };
+  answers = λ f given. record { by_table = refl; given = simp (refused_when, first_zero) refl };
+  filler = λ f line n. record { by_table = refl; given = simp (refused_when, first_assoc, first_zero) refl };
+  data_of = λ f line n given. record { by_table = refl; given = simp (refused_when, first_assoc, first_zero) refl };
+  pixels = λ lo hi f line n given. record { by_table = refl; given = simp (refused_when, first_assoc, first_zero) refl };
+  joined = λ f line c given. record { by_table = refl; given = simp (refused_when, first_assoc, first_zero) refl };
+  strip = λ f long given. record { by_table = refl; given = simp (refused_when, first_zero) refl };
+  put_pixels = λ lo hi f long n ps. record { by_table = refl; given = simp (refused_when, over_when, first_assoc, first_zero) refl };
+  put_data = λ f long n given. record { by_table = refl; given = simp (refused_when, first_assoc, first_zero) refl };
+  with_line = λ f r given. record { by_table = refl; given = simp (refused_when, first_zero) refl };
+  together = λ a b. record { by_table = refl; given = simp (first_assoc, first_zero) refl };
+  fresh_desk = λ count. record { by_table = refl; given = simp (first_zero) refl };
+  take = λ d area. record { by_table = refl; given = take_tests_is d area };
+  publish = λ d area i n. record { by_table = refl; given = publish_tests d area i n };
+  release = λ d area c i n. record { by_table = refl; given = release_tests d area c i n };
+  read_integer = λ n given. record { by_table = refl; given = simp first_zero refl };
+  read_bcd = λ n bytes. record { by_table = refl; given = simp first_zero refl };
+  read_real = λ n m given. record { by_table = refl; given = simp first_zero refl };
+  put_real = λ magnitude n m room. record { by_table = refl; given = simp first_zero refl };
+  modes = λ f line. record { by_table = refl; given = doc_when f line };
+  line_numbers = λ f line. record { by_table = refl; given = behind_doc f line (counts_refusal line) (count_tests line) (counts_when line) };
+  date = λ f line. record { by_table = refl; given = behind_doc f line (date_in_refusal (doc_part line 20 8)) (date_tests (doc_part line 20 8)) (λ h. dates_when (doc_part line 20 8) (stretch_length line 19 8 (omega arith))) };
+  sub_commutation = λ f line. record { by_table = refl; given = behind_doc f line _ (segment_test line ∷ []) (λ h. sym (first_zero _)) };
+  integer_field = λ f line p n. record { by_table = refl; given = field_when (outside 1 4 n) f line p n };
+  bcd_field = λ f line p n.
       record {
-        by-table = refl;
+        by_table = refl;
         given = chain_then _ _ (field_tests (outside 1 6 n) f line p n) ((7, some_over9 (digits_in n (doc_from line p))) ∷ []) (field_when (outside 1 6 n) f line p n) (sym (first_zero _));
       };
-  real-field = λ f line p n m. record { by-table = refl; given = field_when (no_real n m) f line p n };
-  add-segment = λ f a line n block. record { by-table = refl; given = added_when f a line n block };
-  revision = λ f a n given. record { by-table = refl; given = simp (refused_when, first_assoc, first_zero) refl };
-  mapping-of = λ f m i j given. record { by-table = refl; given = simp (refused_when, first_assoc, first_zero) refl };
-  level = λ t f m c level given. record { by-table = refl; given = simp (refused_when, first_assoc, first_zero) refl };
-  elements = λ f m given. record { by-table = refl; given = simp (refused_when, first_assoc, first_zero) refl };
+  real_field = λ f line p n m. record { by_table = refl; given = field_when (no_real n m) f line p n };
+  add_segment = λ f a line n block. record { by_table = refl; given = added_when f a line n block };
+  revision = λ f a n given. record { by_table = refl; given = simp (refused_when, first_assoc, first_zero) refl };
+  mapping_of = λ f m i j given. record { by_table = refl; given = simp (refused_when, first_assoc, first_zero) refl };
+  level = λ t f m c level given. record { by_table = refl; given = simp (refused_when, first_assoc, first_zero) refl };
+  elements = λ f m given. record { by_table = refl; given = simp (refused_when, first_assoc, first_zero) refl };
 }

@@ -51,21 +51,21 @@ unfolding register_left put_sync_left read_left data_left pixels_left joined_lef
 refusals = record {
   stepped = λ register r c h. stays _ _ register _ r.next.bits c.0.0 c.1 h;
   step = λ register r x c h. stays _ _ register _ x c.0.0 c.1 h;
-  put-sync = λ f out r x c h. stays _ _ out _ x c.0.0 c.1 h;
+  put_sync = λ f out r x c h. stays _ _ out _ x c.0.0 c.1 h;
   read = λ f k s piece line r x c h. record {
     taken = stays _ _ 0 _ _ c.0.number c.0.taken h;
     complete = stays _ _ _ _ _ c.0.number c.0.complete h;
     state = stays _ _ s _ _ c.0.number c.0.state h;
     buffer = stays _ _ line _ x c.0.number c.1 h;
   };
-  write-line = λ f line out r x c h. stays _ _ out _ x c.0.0 c.1 h;
+  write_line = λ f line out r x c h. stays _ _ out _ x c.0.0 c.1 h;
   data_of = λ f line sector out r x c h. stays _ _ out _ x c.0 c.1 h;
   pixels = λ lo hi f line sector out r x c h. stays _ _ out _ x c.0 c.1 h;
   joined = λ f line channel out r x c h. stays _ _ out _ x c.0 c.1 h;
   strip = λ f line out r x c h. stays _ _ out _ x c.0.0 c.1 h;
-  put-data = λ f line sector bytes r x hw hx c h. stays_bytes _ _ _ line x hw hx c.0 c.1 h;
-  put-pixels = λ lo hi f line sector ps r x hw hx c h. stays_bytes _ _ _ line x hw hx c.0 c.1 h;
-  with-line = λ f report line r e h. stays _ _ report _ r.report (ap (λ (x : Reported). x.refused) e) (ap (λ (x : Reported). x.report) e) h;
+  put_data = λ f line sector bytes r x hw hx c h. stays_bytes _ _ _ line x hw hx c.0 c.1 h;
+  put_pixels = λ lo hi f line sector ps r x hw hx c h. stays_bytes _ _ _ line x hw hx c.0 c.1 h;
+  with_line = λ f report line r e h. stays _ _ report _ r.report (ap (λ (x : Reported). x.refused) e) (ap (λ (x : Reported). x.report) e) h;
   together = λ a b r e h. stays _ _ a _ r.report (ap (λ (x : Reported). x.refused) e) (ap (λ (x : Reported). x.report) e) h;
   take = λ d area r e h. (
     stays _ _ d _ r.desk (ap (λ (x : Taken). x.refused) e) (ap (λ (x : Taken). x.desk) e) h,
@@ -78,6 +78,6 @@ refusals = record {
     stays _ _ 0 _ r.from (ap (λ (x : Part). x.refused) e) (ap (λ (x : Part). x.from) e) h,
     stays _ _ 0 _ r.to (ap (λ (x : Part). x.refused) e) (ap (λ (x : Part). x.to) e) h,
   );
-  put-real = λ negative magnitude n m out r x c h. stays _ _ out _ x c.0.0 c.1 h;
-  add-segment = assembly_stays;
+  put_real = λ negative magnitude n m out r x c h. stays _ _ out _ x c.0.0 c.1 h;
+  add_segment = assembly_stays;
 }

@@ -9,7 +9,7 @@ use lib.ListN.{length}
 use Rattle.bits.specs.Bits.{bits_of, Below}
 use Rattle.bits.proofs.Bytes.{length_bits}
 use Rattle.bits.proofs.Fields.{packed_inj}
-use Rattle.formats.proofs.Settled.{format-is}
+use Rattle.formats.proofs.Settled.{format_is}
 use Rattle.scramble.specs.declared.StepBit.{StepBit}
 use Rattle.scramble.proofs.Settled.{step_is}
 use Rattle.sync.proofs.Settled.{put_sync_is}
@@ -20,13 +20,13 @@ use Rattle.writer.proofs.Settled.{write_line_is}
 use Rattle.floats.proofs.Settled.{read_f64_is}
 use Rattle.numbers.proofs.Settled.{read_integer_is, read_bcd_is, read_real_is}
 use Rattle.number_writer.proofs.Settled.{put_real_is}
-use Rattle.document.proofs.Settled.{scan-mode-is, scanner-select-is, sub-commutation-is}
+use Rattle.document.proofs.Settled.{scan_mode_is, scanner_select_is, sub_commutation_is}
 use Rattle.document_stamps.proofs.Settled.{line_numbers_is, date_is}
-use Rattle.document_fields.proofs.Settled.{integer-field-is, bcd-field-is, real-field-is, f64-field-is}
+use Rattle.document_fields.proofs.Settled.{integer_field_is, bcd_field_is, real_field_is, f64_field_is}
 use Rattle.segments.proofs.Settled.{add_segment_is}
 use Rattle.entries.proofs.Settled.{revision_is, mapping_is, elements_is}
 use Rattle.calibration.specs.Tables.{albedos, temperatures}
-use Rattle.calibration.proofs.Settled.{level-is, level-f64-is}
+use Rattle.calibration.proofs.Settled.{level_is, level_f64_is}
 use Rattle.demands.specs.Unique.{One, OneWith, OneInBytes, Unique}
 
 -- ---- the shapes of a contract
@@ -58,57 +58,57 @@ in_bytes right left r s x y hx hy p q = (p.0 ∙ sym q.0, unique_bytes left x y 
 
 pub unique : Unique
 unique = record {
-  format-1 = equation _;
-  format-2 = equation _;
-  format-3 = equation _;
-  format-of = λ n. settled _ _ (format-is n);
+  format_1 = equation _;
+  format_2 = equation _;
+  format_3 = equation _;
+  format-of = λ n. settled _ _ (format_is n);
   stepped = λ register r s p q.
       ap₂ (λ (a : StepBit) (b : ℕ). record { next = record { bits = b }; answer = a }) (settled _ _ (step_is register) r.answer s.answer p.0 q.0) (p.1 ∙ sym q.1);
   step = λ register. settled_with _ _ _ (step_is register);
-  put-sync = λ f out. settled_with _ _ _ (put_sync_is f out);
+  put_sync = λ f out. settled_with _ _ _ (put_sync_is f out);
   fresh = equation _;
   read = λ f k s piece line. settled_with _ _ _ (read_is f k s piece line);
-  write-line = λ f line out. settled_with _ _ _ (write_line_is f line out);
+  write_line = λ f line out. settled_with _ _ _ (write_line_is f line out);
   accepted = λ f line sector. equation _;
   answers = λ f line. equation _;
   filler = λ f line sector. settled _ _ (filler_is f line sector);
   data_of = λ f line sector out. equations _ _;
   pixels = λ f line sector out. equations _ _;
-  pixels-wide = λ f line sector out. equations _ _;
+  pixels_wide = λ f line sector out. equations _ _;
   joined = λ f line channel out. equations _ _;
   strip = λ f line out. settled_with _ _ _ (strip_is f line out);
-  put-data = λ f line sector bytes. in_bytes _ _;
-  put-pixels = λ f line sector ps. in_bytes _ _;
-  put-pixels-wide = λ f line sector ps. in_bytes _ _;
+  put_data = λ f line sector bytes. in_bytes _ _;
+  put_pixels = λ f line sector ps. in_bytes _ _;
+  put_pixels_wide = λ f line sector ps. in_bytes _ _;
   empty = equation _;
-  with-line = λ f report line. equation _;
+  with_line = λ f report line. equation _;
   together = λ a b. equation _;
-  fresh-desk = λ count. equation _;
+  fresh_desk = λ count. equation _;
   take = λ d area. equation _;
   publish = λ d area i n. equation _;
   release = λ d area c i n. equation _;
   seen = λ d area c i n. equation _;
-  read-integer = λ n bytes. settled _ _ (read_integer_is n bytes);
-  read-bcd = λ n bytes. settled _ _ (read_bcd_is n bytes);
+  read_integer = λ n bytes. settled _ _ (read_integer_is n bytes);
+  read_bcd = λ n bytes. settled _ _ (read_bcd_is n bytes);
   read_real = λ n m bytes. settled _ _ (read_real_is n m bytes);
-  read-f64 = λ n m bytes. settled _ _ (read_f64_is n m bytes);
-  put-real = λ negative magnitude n m out. settled_with _ _ _ (put_real_is magnitude n m (length out));
-  scan-mode = λ f line. settled _ _ (scan-mode-is f line);
-  scanner-select = λ f line. settled _ _ (scanner-select-is f line);
-  sub-commutation = λ f line. settled _ _ (sub-commutation-is f line);
-  line-numbers = λ f line. settled _ _ (line_numbers_is f line);
+  read_f64 = λ n m bytes. settled _ _ (read_f64_is n m bytes);
+  put_real = λ negative magnitude n m out. settled_with _ _ _ (put_real_is magnitude n m (length out));
+  scan_mode = λ f line. settled _ _ (scan_mode_is f line);
+  scanner_select = λ f line. settled _ _ (scanner_select_is f line);
+  sub_commutation = λ f line. settled _ _ (sub_commutation_is f line);
+  line_numbers = λ f line. settled _ _ (line_numbers_is f line);
   date = λ f line. settled _ _ (date_is f line);
-  integer-field = λ f line place n. settled _ _ (integer-field-is f line place n);
-  bcd-field = λ f line place n. settled _ _ (bcd-field-is f line place n);
-  real-field = λ f line place n m. settled _ _ (real-field-is f line place n m);
-  f64-field = λ f line place n m. settled _ _ (f64-field-is f line place n m);
+  integer_field = λ f line place n. settled _ _ (integer_field_is f line place n);
+  bcd_field = λ f line place n. settled _ _ (bcd_field_is f line place n);
+  real_field = λ f line place n m. settled _ _ (real_field_is f line place n m);
+  f64-field = λ f line place n m. settled _ _ (f64_field_is f line place n m);
   fresh-assembly = equation _;
-  add-segment = λ f a line number block. settled_with _ _ _ (add_segment_is f a line number block);
+  add_segment = λ f a line number block. settled_with _ _ _ (add_segment_is f a line number block);
   revision = λ f a number block. settled _ _ (revision_is f a number block);
   mapping = λ f a block row column. settled _ _ (mapping_is f a.marks block row column);
   elements = λ f a block. settled _ _ (elements_is f a.marks block);
-  albedo = λ f a block channel level. settled _ _ (level-is albedos f a block channel level);
-  albedo-f64 = λ f a block channel level. settled _ _ (level-f64-is albedos f a block channel level);
-  temperature = λ f a block channel level. settled _ _ (level-is temperatures f a block channel level);
-  temperature-f64 = λ f a block channel level. settled _ _ (level-f64-is temperatures f a block channel level);
+  albedo = λ f a block channel level. settled _ _ (level_is albedos f a block channel level);
+  albedo_f64 = λ f a block channel level. settled _ _ (level_f64_is albedos f a block channel level);
+  temperature = λ f a block channel level. settled _ _ (level_is temperatures f a block channel level);
+  temperature_f64 = λ f a block channel level. settled _ _ (level_f64_is temperatures f a block channel level);
 }

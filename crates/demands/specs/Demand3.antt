@@ -15,10 +15,10 @@ pub record Demand3 (f setting : ℕ) (lend : ℕ → List ℕ → List ℕ) (fir
   -- that order, an unfinished last one never
   pub a : (ps ls : List (List ℕ)) → Driven f setting lend 0 fresh_state first ps ls ↔ (ls ≡ recorded setting (in_arow ps))
   -- at every moment they are those of the bytes taken so far, and of the bits read so far ..
-  pub a-bytes : {k : ℕ} {s : State} {buf bytes : List ℕ} {ls : List (List ℕ)} → Moment f setting lend first k s buf bytes ls → ls ≡ recorded setting bytes
-  pub a-bits : {k : ℕ} {s : State} {buf bytes : List ℕ} {ls : List (List ℕ)} → Moment f setting lend first k s buf bytes ls → ls ≡ lines setting (bits_read s bytes)
+  pub a_bytes : {k : ℕ} {s : State} {buf bytes : List ℕ} {ls : List (List ℕ)} → Moment f setting lend first k s buf bytes ls → ls ≡ recorded setting bytes
+  pub a_bits : {k : ℕ} {s : State} {buf bytes : List ℕ} {ls : List (List ℕ)} → Moment f setting lend first k s buf bytes ls → ls ≡ lines setting (bits_read s bytes)
   -- .. and a line is handed out right at its last bit: of the bits read without that one, it is no line yet
-  pub a-last-bit : {k : ℕ} {s : State} {buf bytes : List ℕ} {ls : List (List ℕ)} → Moment f setting lend first k s buf bytes ls
+  pub a_last_bit : {k : ℕ} {s : State} {buf bytes : List ℕ} {ls : List (List ℕ)} → Moment f setting lend first k s buf bytes ls
       → (p : List ℕ) (t : ℕ) (s' : State) → read_answer f setting s p (lent_for lend k s buf) ≡ Line t s'
       → lines setting (take (8 * length (bytes ++ take t p) - s'.unread_count - 1) (bits_of (bytes ++ take t p))) ≡ ls
   -- b. While a line stands whole in the buffer, each pixel joined from it is four times the upper part plus the lower part of that one
@@ -31,6 +31,6 @@ pub record Demand3 (f setting : ℕ) (lend : ℕ → List ℕ → List ℕ) (fir
   -- d. The bytes taken are the advance in the recording: a run takes every byte of its pieces ..
   pub d : (ps ls : List (List ℕ)) (run : Driven f setting lend 0 fresh_state first ps ls) → taken_in run ≡ length (in_arow ps)
   -- .. a call, from any record, no more than it is offered, at least one byte of a piece that has any, and nothing of an empty one
-  pub d-most : (s : State) (p buf : List ℕ) → taken_by (read_answer f setting s p buf) ≤ length p
-  pub d-one : (s : State) (p buf : List ℕ) → refusal_of (read_answer f setting s p buf) ≡ 0 → zero < length p → 1 ≤ taken_by (read_answer f setting s p buf)
-  pub d-none : (s : State) (buf : List ℕ) → refusal_of (read_answer f setting s [] buf) ≡ 0 → (read_answer f setting s [] buf ≡ More 0 s) × (read_left f setting s [] buf ≡ buf)
+  pub d_most : (s : State) (p buf : List ℕ) → taken_by (read_answer f setting s p buf) ≤ length p
+  pub d_one : (s : State) (p buf : List ℕ) → refusal_of (read_answer f setting s p buf) ≡ 0 → zero < length p → 1 ≤ taken_by (read_answer f setting s p buf)
+  pub d_none : (s : State) (buf : List ℕ) → refusal_of (read_answer f setting s [] buf) ≡ 0 → (read_answer f setting s [] buf ≡ More 0 s) × (read_left f setting s [] buf ≡ buf)

@@ -30,7 +30,7 @@ pub record Edges : Type 0 where
   -- a DOC sector of zeros, 18,328 data bits, has check word 0000 ..
   pub P3 : (format : ℕ) → check_start format ≡ 0 → doc_word format (replicate 18328 0) ≡ 0x0000
   -- .. and is accepted, in any line
-  pub P3-accepted : (format : ℕ) → check_start format ≡ 0 → (line : List ℕ) → stretch line 0 20408 ≡ replicate 20408 0 → answer_of (check_start format) (layout_of 1) line ≡ 0
+  pub P3Accepted : (format : ℕ) → check_start format ≡ 0 → (line : List ℕ) → stretch line 0 20408 ≡ replicate 20408 0 → answer_of (check_start format) (layout_of 1) line ≡ 0
   -- only the last data bit set: 1021
   pub P4 : (format : ℕ) → check_start format ≡ 0 → doc_word format (replicate 18327 0 ++ 1 ∷ []) ≡ 0x1021
   -- only the one before: 2042
@@ -47,6 +47,6 @@ pub record Edges : Type 0 where
   pub P10 : read_integer_answer 2 (0x2d ∷ 0x9c ∷ []) ≡ integer.Is 11676
   -- 97 65 as BCD is 9765; 9A 65 is refusal 7
   pub P11 : read_bcd_answer 2 (0x97 ∷ 0x65 ∷ []) ≡ bcd.Is 9765
-  pub P11-refused : read_bcd_answer 2 (0x9a ∷ 0x65 ∷ []) ≡ bcd.Refused 7
+  pub P11Refused : read_bcd_answer 2 (0x9a ∷ 0x65 ∷ []) ≡ bcd.Refused 7
   -- IR1 level 1,023 is at bytes 5373-5376
   pub P12 : (level_place temperatures 1 1023 ≡ 5373) × (level_place temperatures 1 1023 + 3 ≡ 5376)

@@ -11,8 +11,8 @@ use Rattle.fixed.specs.Written.{first_searched, next_searched}
 -- THE SMALLEST NUMBER of a format: no window that is searched before a true tail differs from the tail in fewer places, and one
 -- differs in as many
 pub record Smallest (f : Format) (number : ℕ) : Type 0 where
-  pub before-first : (k : ℕ) → k + 64 < f.sync → number ≤ apart tail (take 64 (drop k (first_searched f)))
-  pub before-next : (k : ℕ) → k + 64 < f.dummy + f.sync → number ≤ apart tail (take 64 (drop k (next_searched f)))
+  pub before_first : (k : ℕ) → k + 64 < f.sync → number ≤ apart tail (take 64 (drop k (first_searched f)))
+  pub before_next : (k : ℕ) → k + 64 < f.dummy + f.sync → number ≤ apart tail (take 64 (drop k (next_searched f)))
   pub place : ℕ
   pub before : place + 64 < f.sync
   pub met : apart tail (take 64 (drop place (first_searched f))) ≡ number

@@ -38,7 +38,7 @@ earlier_format_of n = cond (eqb n 1) (Is svissr) (cond (eqb n 2) (Is hirid) (Ref
 pub record Ones : Type 0 where
   -- formats 1 and 2 are as they were, and so is every other number's refusal; 3 was refused
   pub as_before : (n : ℕ) → (n ≡ 3 → ⊥) → format_of n ≡ earlier_format_of n
-  pub was-refused : earlier_format_of 3 ≡ Refused 1
+  pub was_refused : earlier_format_of 3 ≡ Refused 1
   -- formats 1 and 2 keep zero, format 3 has sixteen ones
   pub start_1 : check_start 1 ≡ 0
   pub start_2 : check_start 2 ≡ 0
@@ -49,14 +49,14 @@ pub record Ones : Type 0 where
   pub visible : (v : ℕ) → v < 4 → (line : List ℕ) → take 16 (covered_of (layout_of (5 + v)) line) ≡ stretch line (layout_of (5 + v)).start 12 ++ stretch line (data_at (layout_of (5 + v))) 4
   -- a DOC sector of zeros has check word 9063; only the last data bit set: 8042; only the one before: B021
   pub word : doc_word 3 (replicate 18328 0) ≡ 0x9063
-  pub word-last : doc_word 3 (replicate 18327 0 ++ 1 ∷ []) ≡ 0x8042
-  pub word-before : doc_word 3 (replicate 18326 0 ++ 1 ∷ 0 ∷ []) ≡ 0xb021
+  pub word_last : doc_word 3 (replicate 18327 0 ++ 1 ∷ []) ≡ 0x8042
+  pub word_before : doc_word 3 (replicate 18326 0 ++ 1 ∷ 0 ∷ []) ≡ 0xb021
   -- with check word 0000 it is refused with 5, in any line
   pub refused : (line : List ℕ) → stretch line 0 20408 ≡ replicate 20408 0 → answer_of (check_start 3) (layout_of 1) line ≡ 5
   -- ON THE REAL CALLS: `accepted` says 5 of it in format 3, and 0 in formats 1 and 2 ..
-  pub accepted-1 : (line : List ℕ) → line_bytes ≤ length line → stretch (bits_of line) 0 20408 ≡ replicate 20408 0 → accepted_answer 1 line 1 ≡ 0
-  pub accepted-2 : (line : List ℕ) → line_bytes ≤ length line → stretch (bits_of line) 0 20408 ≡ replicate 20408 0 → accepted_answer 2 line 1 ≡ 0
-  pub accepted-3 : (line : List ℕ) → line_bytes ≤ length line → stretch (bits_of line) 0 20408 ≡ replicate 20408 0 → accepted_answer 3 line 1 ≡ 5
+  pub accepted_1 : (line : List ℕ) → line_bytes ≤ length line → stretch (bits_of line) 0 20408 ≡ replicate 20408 0 → accepted_answer 1 line 1 ≡ 0
+  pub accepted_2 : (line : List ℕ) → line_bytes ≤ length line → stretch (bits_of line) 0 20408 ≡ replicate 20408 0 → accepted_answer 2 line 1 ≡ 0
+  pub accepted_3 : (line : List ℕ) → line_bytes ≤ length line → stretch (bits_of line) 0 20408 ≡ replicate 20408 0 → accepted_answer 3 line 1 ≡ 5
   -- .. and what `put_data` writes behind 2,291 zero bytes in format 3 is 9063
   pub put_3 : (line : List ℕ) → line_bytes ≤ length line
       → (put_data_answer 3 (length line) 1 2291 ≡ 0) × (stretch (put_data_left 3 line 1 (replicate 2291 0)) 18344 16 ≡ digits 16 0x9063)
@@ -64,9 +64,9 @@ pub record Ones : Type 0 where
 -- FORMAT 3 IS FORMAT 1 BUT FOR THE CHECK: a row for each call that takes a format and checks no sector. (The others take of it the
 -- start value, and whether it is known.)
 pub record AsFormat1 : Type 0 where
-  pub put-sync : (out : List ℕ) → put_sync_answer 3 out ≡ put_sync_answer 1 out
+  pub put_sync : (out : List ℕ) → put_sync_answer 3 out ≡ put_sync_answer 1 out
   pub put-sync-left : (out : List ℕ) → put_sync_left 3 out ≡ put_sync_left 1 out
-  pub write-line : (line out : List ℕ) → write_line_answer 3 line out ≡ write_line_answer 1 line out
+  pub write_line : (line out : List ℕ) → write_line_answer 3 line out ≡ write_line_answer 1 line out
   pub write-line-left : (line out : List ℕ) → write_line_left 3 line out ≡ write_line_left 1 line out
   pub read : (k : ℕ) (s : State) (piece line : List ℕ) → read_answer 3 k s piece line ≡ read_answer 1 k s piece line
   pub reader_left : (k : ℕ) (s : State) (piece line : List ℕ) → read_left 3 k s piece line ≡ read_left 1 k s piece line
@@ -76,18 +76,18 @@ pub record AsFormat1 : Type 0 where
   pub mapping : (m : Marks) (block : List ℕ) (i j : ℕ) → mapping_answer 3 m block i j ≡ mapping_answer 1 m block i j
   pub elements : (m : Marks) (block : List ℕ) → elements_answer 3 m block ≡ elements_answer 1 m block
   pub level : (t : Levels) (a : Assembly) (block : List ℕ) (c n : ℕ) → level_answer t 3 a block c n ≡ level_answer t 1 a block c n
-  pub level-f64 : (t : Levels) (a : Assembly) (block : List ℕ) (c n : ℕ) → level_f64_answer t 3 a block c n ≡ level_f64_answer t 1 a block c n
+  pub level_f64 : (t : Levels) (a : Assembly) (block : List ℕ) (c n : ℕ) → level_f64_answer t 3 a block c n ≡ level_f64_answer t 1 a block c n
 
 -- DEMANDS 2 AND 3 IN FORMAT 3: instances of what is shown of every format that a number names
 pub record Covered : Type 0 where
   pub named : format_of 3 ≡ Is svissr_ones
   -- demand 3, a to d, at every setting and with any full-size buffers
-  pub demand-3 : (setting : ℕ) → setting ≤ largest_setting → (lend : ℕ → List ℕ → List ℕ) → ((k : ℕ) (buf : List ℕ) → 44356 ≤ length buf → 44356 ≤ length (lend k buf))
+  pub demand_3 : (setting : ℕ) → setting ≤ largest_setting → (lend : ℕ → List ℕ → List ℕ) → ((k : ℕ) (buf : List ℕ) → 44356 ≤ length buf → 44356 ≤ length (lend k buf))
       → (first : List ℕ) → 44356 ≤ length first → Demand3 3 setting lend first
   -- the round trip of plain lines
   pub round_trip : (setting : ℕ) → setting ≤ largest_setting → (ls : List (List ℕ)) → PlainLines ls → recorded setting (recording_of svissr_ones ls) ≡ map bits_of ls
   -- demand 2: what is put into the sectors of lines comes back, through the writer, any cut and the reader ..
-  pub demand-2 : (setting : ℕ) → setting ≤ largest_setting → (lend : ℕ → List ℕ → List ℕ) → ((k : ℕ) (buf : List ℕ) → 44356 ≤ length buf → 44356 ≤ length (lend k buf))
+  pub demand_2 : (setting : ℕ) → setting ≤ largest_setting → (lend : ℕ → List ℕ → List ℕ) → ((k : ℕ) (buf : List ℕ) → 44356 ≤ length buf → 44356 ≤ length (lend k buf))
       → (first : List ℕ) → 44356 ≤ length first → {ls : List (List ℕ)} {recording : List ℕ} → Recording 3 ls recording
       → (ps : List (List ℕ)) → in_arow ps ≡ recording → (out : List (List ℕ)) → Driven 3 setting lend 0 fresh_state first ps out → ComeBack 3 ls out
   -- .. and of one line, without them

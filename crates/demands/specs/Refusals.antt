@@ -50,22 +50,22 @@ pub record Untouched (s : State) (line : List ℕ) (r : Answer) (x : List ℕ) :
 pub record Refusals : Type 0 where
   pub stepped : (register : ℕ) (r : StepTaken) → StepOk register r.answer × (r.next.bits ≡ register_left register) → Refuses (step_number r.answer) → r.next.bits ≡ register
   pub step : (register : ℕ) → Keeps step_number (Step register) register
-  pub put-sync : (f : ℕ) (out : List ℕ) → Keeps sync_number (PutSync f out) out
+  pub put_sync : (f : ℕ) (out : List ℕ) → Keeps sync_number (PutSync f out) out
   pub read : (f k : ℕ) (s : State) (piece line : List ℕ) (r : Answer) (x : List ℕ) → Read f k s piece line r x → Refuses (refusal_of r) → Untouched s line r x
-  pub write-line : (f : ℕ) (line out : List ℕ) → Keeps written_number (WriteLine f line out) out
+  pub write_line : (f : ℕ) (line out : List ℕ) → Keeps written_number (WriteLine f line out) out
   pub data_of : (f : ℕ) (line : List ℕ) (sector : ℕ) (out : List ℕ) → Keeps itself (Data f line sector out) out
   pub pixels : (lo hi f : ℕ) (line : List ℕ) (sector : ℕ) (out : List ℕ) → Keeps itself (Pixels lo hi f line sector out) out
   pub joined : (f : ℕ) (line : List ℕ) (channel : ℕ) (out : List ℕ) → Keeps itself (Joined f line channel out) out
   pub strip : (f : ℕ) (line out : List ℕ) → Keeps stripped_number (Strip f line out) out
-  pub put-data : (f : ℕ) (line : List ℕ) (sector : ℕ) (bytes : List ℕ) → KeepsBytes (PutData f line sector bytes) line
-  pub put-pixels : (lo hi f : ℕ) (line : List ℕ) (sector : ℕ) (ps : List ℕ) → KeepsBytes (PutPixels lo hi f line sector ps) line
-  pub with-line : (f : ℕ) (report : Report) (line : List ℕ) (r : Reported) → r ≡ with_line_answer f report line → Refuses r.refused → r.report ≡ report
+  pub put_data : (f : ℕ) (line : List ℕ) (sector : ℕ) (bytes : List ℕ) → KeepsBytes (PutData f line sector bytes) line
+  pub put_pixels : (lo hi f : ℕ) (line : List ℕ) (sector : ℕ) (ps : List ℕ) → KeepsBytes (PutPixels lo hi f line sector ps) line
+  pub with_line : (f : ℕ) (report : Report) (line : List ℕ) (r : Reported) → r ≡ with_line_answer f report line → Refuses r.refused → r.report ≡ report
   pub together : (a b : Report) (r : Reported) → r ≡ together_answer a b → Refuses r.refused → r.report ≡ a
   pub take : (d : Desk) (area : ℕ) (r : Taken) → r ≡ take_answer d area → Refuses r.refused → (r.desk ≡ d) × (r.slot ≡ 0) × (r.serial ≡ 0)
   pub publish : (d : Desk) (area i n : ℕ) (r : Changed) → r ≡ publish_answer d area i n → Refuses r.refused → r.desk ≡ d
   pub release : (d : Desk) (area c i n : ℕ) (r : Changed) → r ≡ release_answer d area c i n → Refuses r.refused → r.desk ≡ d
   -- and no part of the area is given
   pub seen : (d : Desk) (area c i n : ℕ) (r : Part) → r ≡ seen_answer d area c i n → Refuses r.refused → (r.from ≡ 0) × (r.to ≡ 0)
-  pub put-real : (negative : Bool) (magnitude n m : ℕ) (out : List ℕ) → Keeps put_number (PutReal negative magnitude n m out) out
-  pub add-segment : (f : ℕ) (a : Assembly) (line : List ℕ) (number : ℕ) (block : List ℕ) (r : Added) (x : List ℕ)
+  pub put_real : (negative : Bool) (magnitude n m : ℕ) (out : List ℕ) → Keeps put_number (PutReal negative magnitude n m out) out
+  pub add_segment : (f : ℕ) (a : Assembly) (line : List ℕ) (number : ℕ) (block : List ℕ) (r : Added) (x : List ℕ)
       → AddSegment f a line number block r x → Refuses (added_number r) → (x ≡ block) × (assembly_after a r ≡ a)

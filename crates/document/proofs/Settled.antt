@@ -27,10 +27,10 @@ use Rattle.document.proofs.Named.{mode_byte_is, mirror_byte_is}
 
 pub scan_kind : Kind scan.Refused scan.Is scan_number scanned (mode.Unnamed 0)
 scan_kind = record {
-  number-refused = λ n. refl;
-  number-given = λ v. refl;
-  value-refused = λ n. refl;
-  value-given = λ v. refl;
+  number_refused = λ n. refl;
+  number_given = λ v. refl;
+  value_refused = λ n. refl;
+  value_given = λ v. refl;
   apart = λ v e. let z : ◌≡◌ {A = ℕ} 0 1 = cc in let w : ⊥ = omega arith in w;
   either = each;
 }
@@ -41,10 +41,10 @@ scan_kind = record {
 
 pub scanner_kind : Kind scanner.Refused scanner.Is scanner_number selected (mirror.Unnamed 0)
 scanner_kind = record {
-  number-refused = λ n. refl;
-  number-given = λ v. refl;
-  value-refused = λ n. refl;
-  value-given = λ v. refl;
+  number_refused = λ n. refl;
+  number_given = λ v. refl;
+  value_refused = λ n. refl;
+  value_given = λ v. refl;
   apart = λ v e. let z : ◌≡◌ {A = ℕ} 0 1 = cc in let w : ⊥ = omega arith in w;
   either = each;
 }
@@ -55,10 +55,10 @@ scanner_kind = record {
 
 pub sub_kind : Kind sub.Refused (λ (v : ℕ × ℕ). sub.Is v.0 v.1) sub_number sub_values (0, 0)
 sub_kind = record {
-  number-refused = λ n. refl;
-  number-given = λ v. refl;
-  value-refused = λ n. refl;
-  value-given = λ v. refl;
+  number_refused = λ n. refl;
+  number_given = λ v. refl;
+  value_refused = λ n. refl;
+  value_given = λ v. refl;
   apart = λ v e. let z : ◌≡◌ {A = ℕ} 0 1 = cc in let w : ⊥ = omega arith in w;
   either = each;
 }
@@ -109,20 +109,20 @@ module _ {M : Type 0} (name byte : M → ℕ) (by : ℕ × ℕ → M) (back : (m
 -- ---- the calls
 
 module _ (f : ℕ) (line : List ℕ) where
-  pub scan-mode-told : (r : Scan) → Says scan_kind (doc_refusal f line) (mode_of (doc_byte line 3)) r → ScanModeOk f line r
-  scan-mode-told r s = (s.0, told mode_name mode_byte mode_by mode_back _ _ _ _ _ (mode_byte_is (doc_byte line 3)) s.1, s.2)
+  pub scan_mode_told : (r : Scan) → Says scan_kind (doc_refusal f line) (mode_of (doc_byte line 3)) r → ScanModeOk f line r
+  scan_mode_told r s = (s.0, told mode_name mode_byte mode_by mode_back _ _ _ _ _ (mode_byte_is (doc_byte line 3)) s.1, s.2)
 
-  pub scan-mode-is : (r : Scan) → ScanModeOk f line r → r ≡ scan_mode_answer f line
+  pub scan_mode_is : (r : Scan) → ScanModeOk f line r → r ≡ scan_mode_answer f line
   unfolding scan_mode_answer
-  scan-mode-is r s = says_is scan_kind _ _ r (s.0, heard mode_name mode_byte mode_by mode_back _ _ _ _ _ (mode_byte_is (doc_byte line 3)) s.1, s.2)
+  scan_mode_is r s = says_is scan_kind _ _ r (s.0, heard mode_name mode_byte mode_by mode_back _ _ _ _ _ (mode_byte_is (doc_byte line 3)) s.1, s.2)
 
-  pub scanner-select-told : (r : Scanner) → Says scanner_kind (doc_refusal f line) (mirror_of (doc_byte line 67)) r → ScannerSelectOk f line r
-  scanner-select-told r s = (s.0, told mirror_name mirror_byte mirror_by mirror_back _ _ _ _ _ (mirror_byte_is (doc_byte line 67)) s.1, s.2)
+  pub scanner_select_told : (r : Scanner) → Says scanner_kind (doc_refusal f line) (mirror_of (doc_byte line 67)) r → ScannerSelectOk f line r
+  scanner_select_told r s = (s.0, told mirror_name mirror_byte mirror_by mirror_back _ _ _ _ _ (mirror_byte_is (doc_byte line 67)) s.1, s.2)
 
-  pub scanner-select-is : (r : Scanner) → ScannerSelectOk f line r → r ≡ scanner_select_answer f line
+  pub scanner_select_is : (r : Scanner) → ScannerSelectOk f line r → r ≡ scanner_select_answer f line
   unfolding scanner_select_answer
-  scanner-select-is r s = says_is scanner_kind _ _ r (s.0, heard mirror_name mirror_byte mirror_by mirror_back _ _ _ _ _ (mirror_byte_is (doc_byte line 67)) s.1, s.2)
+  scanner_select_is r s = says_is scanner_kind _ _ r (s.0, heard mirror_name mirror_byte mirror_by mirror_back _ _ _ _ _ (mirror_byte_is (doc_byte line 67)) s.1, s.2)
 
-  pub sub-commutation-is : (r : SubCommutation) → SubCommutationOk f line r → r ≡ sub_commutation_answer f line
+  pub sub_commutation_is : (r : SubCommutation) → SubCommutationOk f line r → r ≡ sub_commutation_answer f line
   unfolding sub_commutation_answer
-  sub-commutation-is r = says_is sub_kind _ _ r
+  sub_commutation_is r = says_is sub_kind _ _ r

@@ -22,26 +22,26 @@ places = (refl, refl, refl, refl)
 
 -- a form of the paper refuses nothing, whatever the line and the place: I*n and BCD*n, R*n.m
 module _ (f : ℕ) (line : List ℕ) (p n : ℕ) where
-  pub size-passed : (high : ℕ) → 1 ≤ n → n ≤ high → field_refusal (outside_of 1 high n 10) f line p n ≡ field_refusal 0 f line p n
-  size-passed high h k = ap (λ (form : ℕ). field_refusal form f line p n) (within 1 high n 10 h k)
+  pub size_passed : (high : ℕ) → 1 ≤ n → n ≤ high → field_refusal (outside_of 1 high n 10) f line p n ≡ field_refusal 0 f line p n
+  size_passed high h k = ap (λ (form : ℕ). field_refusal form f line p n) (within 1 high n 10 h k)
 
-  pub form-passed : (m : ℕ) → (n ≡ 4) ⊎ (n ≡ 6) → m ≤ 15 → field_refusal (form_refusal n m) f line p n ≡ field_refusal 0 f line p n
-  form-passed m h k = ap (λ (form : ℕ). field_refusal form f line p n) (form_none n m h k)
+  pub form_passed : (m : ℕ) → (n ≡ 4) ⊎ (n ≡ 6) → m ≤ 15 → field_refusal (form_refusal n m) f line p n ≡ field_refusal 0 f line p n
+  form_passed m h k = ap (λ (form : ℕ). field_refusal form f line p n) (form_none n m h k)
 
 -- one that is none of them is 10
 module _ (f : ℕ) (line : List ℕ) (p n : ℕ) (known : format_refusal f ≡ 0) where
-  pub integer-sizes : (n < 1) ⊎ (4 < n) → integer_field_answer f line p n ≡ integer.Refused 10
+  pub integer_sizes : (n < 1) ⊎ (4 < n) → integer_field_answer f line p n ≡ integer.Refused 10
   unfolding integer_field_answer integer_field_refusal field_refusal first answered
-  integer-sizes h = rw (known, outside_given 1 4 n 10 h) refl
+  integer_sizes h = rw (known, outside_given 1 4 n 10 h) refl
 
-  pub bcd-sizes : (n < 1) ⊎ (6 < n) → bcd_field_answer f line p n ≡ bcd.Refused 10
+  pub bcd_sizes : (n < 1) ⊎ (6 < n) → bcd_field_answer f line p n ≡ bcd.Refused 10
   unfolding bcd_field_answer bcd_field_refusal field_refusal first answered
-  bcd-sizes h = rw (known, outside_given 1 6 n 10 h) refl
+  bcd_sizes h = rw (known, outside_given 1 6 n 10 h) refl
 
-  pub real-forms : (m : ℕ) → NoForm n m → real_field_answer f line p n m ≡ real.Refused 10
+  pub real_forms : (m : ℕ) → NoForm n m → real_field_answer f line p n m ≡ real.Refused 10
   unfolding real_field_answer real_field_refusal field_refusal first answered
-  real-forms m h = rw (known, form_given n m h) refl
+  real_forms m h = rw (known, form_given n m h) refl
 
-  pub f64-forms : (m : ℕ) → NoForm n m → f64_field_answer f line p n m ≡ float.Refused 10
+  pub f64_forms : (m : ℕ) → NoForm n m → f64_field_answer f line p n m ≡ float.Refused 10
   unfolding f64_field_answer real_field_refusal field_refusal first answered
-  f64-forms m h = rw (known, form_given n m h) refl
+  f64_forms m h = rw (known, form_given n m h) refl

@@ -22,13 +22,13 @@ use Rattle.document_fields.proofs.Served.{there}
 module _ (f : ℕ) (line : List ℕ) (p n : ℕ) where
   -- ---- what refuses them
 
-  integer-same : field_refusal (outside_of 1 4 n 10) f line p n ≡ 0 → read_integer_refusal n (length (doc_from line p)) ≡ integer_field_refusal f line p n
+  integer_same : field_refusal (outside_of 1 4 n 10) f line p n ≡ 0 → read_integer_refusal n (length (doc_from line p)) ≡ integer_field_refusal f line p n
   unfolding read_integer_refusal integer_field_refusal
-  integer-same e = let t = there (outside_of 1 4 n 10) f line p n e in first_none _ _ t.0 ∙ t.1 ∙ sym e
+  integer_same e = let t = there (outside_of 1 4 n 10) f line p n e in first_none _ _ t.0 ∙ t.1 ∙ sym e
 
-  bcd-same : field_refusal (outside_of 1 6 n 10) f line p n ≡ 0 → read_bcd_refusal n (doc_from line p) ≡ bcd_field_refusal f line p n
+  bcd_same : field_refusal (outside_of 1 6 n 10) f line p n ≡ 0 → read_bcd_refusal n (doc_from line p) ≡ bcd_field_refusal f line p n
   unfolding read_bcd_refusal bcd_field_refusal
-  bcd-same e = let t = there (outside_of 1 6 n 10) f line p n e in first_none _ _ t.0 ∙ first_none _ _ t.1 ∙ sym (first_none _ _ e)
+  bcd_same e = let t = there (outside_of 1 6 n 10) f line p n e in first_none _ _ t.0 ∙ first_none _ _ t.1 ∙ sym (first_none _ _ e)
 
   real_same : (m : ℕ) → field_refusal (form_refusal n m) f line p n ≡ 0 → read_real_refusal n m (length (doc_from line p)) ≡ real_field_refusal f line p n m
   unfolding read_real_refusal real_field_refusal
@@ -37,13 +37,13 @@ module _ (f : ℕ) (line : List ℕ) (p n : ℕ) where
   -- ---- what they say, of the bytes from the place on
 
   module _ (bytes : List ℕ) (from : bytes ≡ doc_from line p) where
-    pub integer-read : (r : Integer) → field_refusal (outside_of 1 4 n 10) f line p n ≡ 0 → ReadIntegerOk n bytes r → IntegerFieldOk f line p n r
-    integer-read r e s =
-        subst (λ (k : ℕ). Says integers k (in_base 256 (take n (doc_from line p))) r) (integer-same e) (subst (λ (l : List ℕ). ReadIntegerOk n l r) from s)
+    pub integer_read : (r : Integer) → field_refusal (outside_of 1 4 n 10) f line p n ≡ 0 → ReadIntegerOk n bytes r → IntegerFieldOk f line p n r
+    integer_read r e s =
+        subst (λ (k : ℕ). Says integers k (in_base 256 (take n (doc_from line p))) r) (integer_same e) (subst (λ (l : List ℕ). ReadIntegerOk n l r) from s)
 
-    pub bcd-read : (r : Bcd) → field_refusal (outside_of 1 6 n 10) f line p n ≡ 0 → ReadBcdOk n bytes r → BcdFieldOk f line p n r
-    bcd-read r e s =
-        subst (λ (k : ℕ). Says decimals k (in_base 10 (digits_in n (doc_from line p))) r) (bcd-same e) (subst (λ (l : List ℕ). ReadBcdOk n l r) from s)
+    pub bcd_read : (r : Bcd) → field_refusal (outside_of 1 6 n 10) f line p n ≡ 0 → ReadBcdOk n bytes r → BcdFieldOk f line p n r
+    bcd_read r e s =
+        subst (λ (k : ℕ). Says decimals k (in_base 10 (digits_in n (doc_from line p))) r) (bcd_same e) (subst (λ (l : List ℕ). ReadBcdOk n l r) from s)
 
     pub real_read : (m : ℕ) (r : Real) → field_refusal (form_refusal n m) f line p n ≡ 0 → ReadRealOk n m bytes r → RealFieldOk f line p n m r
     real_read m r e s =

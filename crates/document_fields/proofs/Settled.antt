@@ -12,18 +12,18 @@ use Rattle.numbers.proofs.Settled.{integers, decimals, reals}
 use Rattle.document_fields.specs.Fields.{integer_field_answer, IntegerFieldOk, bcd_field_answer, BcdFieldOk, real_field_answer, RealFieldOk, f64_field_answer, F64FieldOk}
 
 module _ (f : ℕ) (line : List ℕ) (p n : ℕ) where
-  pub integer-field-is : (r : Integer) → IntegerFieldOk f line p n r → r ≡ integer_field_answer f line p n
+  pub integer_field_is : (r : Integer) → IntegerFieldOk f line p n r → r ≡ integer_field_answer f line p n
   unfolding integer_field_answer
-  integer-field-is r = says_is integers _ _ r
+  integer_field_is r = says_is integers _ _ r
 
-  pub bcd-field-is : (r : Bcd) → BcdFieldOk f line p n r → r ≡ bcd_field_answer f line p n
+  pub bcd_field_is : (r : Bcd) → BcdFieldOk f line p n r → r ≡ bcd_field_answer f line p n
   unfolding bcd_field_answer
-  bcd-field-is r = says_is decimals _ _ r
+  bcd_field_is r = says_is decimals _ _ r
 
-  pub real-field-is : (m : ℕ) (r : Real) → RealFieldOk f line p n m r → r ≡ real_field_answer f line p n m
+  pub real_field_is : (m : ℕ) (r : Real) → RealFieldOk f line p n m r → r ≡ real_field_answer f line p n m
   unfolding real_field_answer
-  real-field-is m r = says_is reals _ _ r
+  real_field_is m r = says_is reals _ _ r
 
-  pub f64-field-is : (m : ℕ) (r : Float) → F64FieldOk f line p n m r → r ≡ f64_field_answer f line p n m
+  pub f64_field_is : (m : ℕ) (r : Float) → F64FieldOk f line p n m r → r ≡ f64_field_answer f line p n m
   unfolding f64_field_answer
-  f64-field-is m r = says_is floats _ _ r
+  f64_field_is m r = says_is floats _ _ r

@@ -16,10 +16,10 @@ use Rattle.document_stamps.specs.Dates.{no_date, dated_number, dated_values, Dat
 
 pub numbered_kind : Kind numbered.Refused numbered.Is numbered_number numbered_values no_lines
 numbered_kind = record {
-  number-refused = λ n. refl;
-  number-given = λ v. refl;
-  value-refused = λ n. refl;
-  value-given = λ v. refl;
+  number_refused = λ n. refl;
+  number_given = λ v. refl;
+  value_refused = λ n. refl;
+  value_given = λ v. refl;
   apart = λ v e. let z : ◌≡◌ {A = ℕ} 0 1 = cc in let w : ⊥ = omega arith in w;
   either = each;
 }
@@ -30,10 +30,10 @@ numbered_kind = record {
 
 pub dated_kind : Kind dated.Refused dated.Is dated_number dated_values no_date
 dated_kind = record {
-  number-refused = λ n. refl;
-  number-given = λ v. refl;
-  value-refused = λ n. refl;
-  value-given = λ v. refl;
+  number_refused = λ n. refl;
+  number_given = λ v. refl;
+  value_refused = λ n. refl;
+  value_given = λ v. refl;
   apart = λ v e. let z : ◌≡◌ {A = ℕ} 0 1 = cc in let w : ⊥ = omega arith in w;
   either = each;
 }

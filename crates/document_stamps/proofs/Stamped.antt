@@ -25,22 +25,22 @@ two_copies out count date l =
     ap₂ (λ (x y : List ℕ). x ++ date ++ y) front behind
 
 module _ (line : List ℕ) (long : line_bytes ≤ length line) where
-  pub count-length : length (doc_part line 11 2) ≡ 2
+  pub count_length : length (doc_part line 11 2) ≡ 2
   unfolding doc_part
-  count-length = stretch_length line 10 2 (omega (arith, long))
+  count_length = stretch_length line 10 2 (omega (arith, long))
 
-  date-length : length (doc_part line 20 8) ≡ 8
+  date_length : length (doc_part line 20 8) ≡ 8
   unfolding doc_part
-  date-length = stretch_length line 19 8 (omega (arith, long))
+  date_length = stretch_length line 19 8 (omega (arith, long))
 
-  pub stamp-is : Below 256 line → Stamp (stamp_of line)
+  pub stamp_is : Below 256 line → Stamp (stamp_of line)
   unfolding stamp_of
-  stamp-is b =
+  stamp_is b =
       record {
         bytes = unfold doc_part stretch in below_append 256 (take 2 (drop 10 line)) (take 8 (drop 19 line)) (below_take 256 2 (drop 10 line) (below_drop 256 10 line b)) (below_take 256 8 (drop 19 line) (below_drop 256 19 line b));
-        long = omega (arith, length-append (doc_part line 11 2) (doc_part line 20 8), count-length, date-length);
+        long = omega (arith, length-append (doc_part line 11 2) (doc_part line 20 8), count_length, date_length);
       }
 
-  pub stamp-date : date_in (drop 2 (stamp_of line)) ≡ date_in (doc_part line 20 8)
+  pub stamp_date : date_in (drop 2 (stamp_of line)) ≡ date_in (doc_part line 20 8)
   unfolding stamp_of
-  stamp-date = ap date_in (drop_at (doc_part line 11 2) (doc_part line 20 8) 2 count-length)
+  stamp_date = ap date_in (drop_at (doc_part line 11 2) (doc_part line 20 8) 2 count_length)

@@ -22,10 +22,10 @@ use Rattle.entries.specs.Entries.{revised_number, revised_value, revision_answer
 
 pub revisions : Kind revised.Refused revised.Is revised_number revised_value 0
 revisions = record {
-  number-refused = λ n. refl;
-  number-given = λ v. refl;
-  value-refused = λ n. refl;
-  value-given = λ v. refl;
+  number_refused = λ n. refl;
+  number_given = λ v. refl;
+  value_refused = λ n. refl;
+  value_given = λ v. refl;
   apart = λ v e. let z : ◌≡◌ {A = ℕ} 0 1 = cc in let w : ⊥ = omega arith in w;
   either = each;
 }
@@ -42,10 +42,10 @@ revision_is f a n block r = says_is revisions _ _ r
 
 pub points : Kind mapped.Refused mapped.Is mapped_number mapped_point no_point
 points = record {
-  number-refused = λ n. refl;
-  number-given = λ v. refl;
-  value-refused = λ n. refl;
-  value-given = λ v. refl;
+  number_refused = λ n. refl;
+  number_given = λ v. refl;
+  value_refused = λ n. refl;
+  value_given = λ v. refl;
   apart = λ v e. let z : ◌≡◌ {A = ℕ} 0 1 = cc in let w : ⊥ = omega arith in w;
   either = each;
 }
@@ -62,10 +62,10 @@ mapping_is f m block i j r = says_is points _ _ r
 
 pub orbits : Kind orbital.Refused orbital.Is orbital_number orbital_elements no_elements
 orbits = record {
-  number-refused = λ n. refl;
-  number-given = λ v. refl;
-  value-refused = λ n. refl;
-  value-given = λ v. refl;
+  number_refused = λ n. refl;
+  number_given = λ v. refl;
+  value_refused = λ n. refl;
+  value_given = λ v. refl;
   apart = λ v e. let z : ◌≡◌ {A = ℕ} 0 1 = cc in let w : ⊥ = omega arith in w;
   either = each;
 }

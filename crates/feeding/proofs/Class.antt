@@ -23,14 +23,14 @@ use Rattle.feeding.specs.Fed.{Fed}
 use Rattle.feeding.specs.Feeder as feeder
 use Rattle.feeding.specs.Feeder.{Feeder}
 use Rattle.feeding.specs.OneLine.{OneSlot}
-use Rattle.feeding.proofs.EndToEnd.{run-history, run_past}
+use Rattle.feeding.proofs.EndToEnd.{run_history, run_past}
 use Rattle.feeding.proofs.Pixels.{held_pixels}
 use Rattle.feeding.proofs.Seen.{seen_slot}
 
 -- the bytes fed, and what is left of the recording behind them
 pub record OfRecording (f setting count : ℕ) (first : List ℕ) (pieces : List (List ℕ)) (k : ℕ) (s : State) (d : Desk) (area : List ℕ) (rest : List (List ℕ)) : Type 0 where
   pub fed : List ℕ
-  pub fed-so : Fed f setting count first k s d area fed
+  pub fed_so : Fed f setting count first k s d area fed
   pub all : fed ++ in_arow rest ≡ in_arow pieces
 
 -- what is taken of the piece in front stands behind what was fed
@@ -42,35 +42,35 @@ on_piece fed p ps pieces t e =
 
 pub of_recording : {f setting count : ℕ} {first : List ℕ} {pieces : List (List ℕ)} {k : ℕ} {s : State} {d : Desk} {area : List ℕ} {rest : List (List ℕ)}
     → Feeder f setting count first pieces k s d area rest → OfRecording f setting count first pieces k s d area rest
-of_recording feeder.Feeder.start = record { fed = []; fed-so = run.Fed.start; all = refl }
-of_recording (feeder.Feeder.takes r) = let w = of_recording r in record { fed = w.fed; fed-so = run.Fed.takes w.fed-so; all = w.all }
+of_recording feeder.Feeder.start = record { fed = []; fed_so = run.Fed.start; all = refl }
+of_recording (feeder.Feeder.takes r) = let w = of_recording r in record { fed = w.fed; fed_so = run.Fed.takes w.fed_so; all = w.all }
 of_recording {pieces = pieces} (feeder.Feeder.offers {p = p} {ps = ps} {t = t} i r u e) =
     let w = of_recording r in
-    record { fed = w.fed ++ take t p; fed-so = run.Fed.reads i p w.fed-so u e; all = on_piece w.fed p ps pieces t w.all }
+    record { fed = w.fed ++ take t p; fed_so = run.Fed.reads i p w.fed_so u e; all = on_piece w.fed p ps pieces t w.all }
 of_recording {pieces = pieces} (feeder.Feeder.completes {p = p} {ps = ps} {t = t} i r u e) =
     let w = of_recording r in
-    record { fed = w.fed ++ take t p; fed-so = run.Fed.gets i p w.fed-so u e; all = on_piece w.fed p ps pieces t w.all }
-of_recording (feeder.Feeder.publishes i n r l) = let w = of_recording r in record { fed = w.fed; fed-so = run.Fed.publishes i n w.fed-so l; all = w.all }
-of_recording (feeder.Feeder.next r) = let w = of_recording r in record { fed = w.fed; fed-so = w.fed-so; all = w.all }
-of_recording (feeder.Feeder.releases c i n r) = let w = of_recording r in record { fed = w.fed; fed-so = run.Fed.releases c i n w.fed-so; all = w.all }
+    record { fed = w.fed ++ take t p; fed_so = run.Fed.gets i p w.fed_so u e; all = on_piece w.fed p ps pieces t w.all }
+of_recording (feeder.Feeder.publishes i n r l) = let w = of_recording r in record { fed = w.fed; fed_so = run.Fed.publishes i n w.fed_so l; all = w.all }
+of_recording (feeder.Feeder.next r) = let w = of_recording r in record { fed = w.fed; fed_so = w.fed_so; all = w.all }
+of_recording (feeder.Feeder.releases c i n r) = let w = of_recording r in record { fed = w.fed; fed_so = run.Fed.releases c i n w.fed_so; all = w.all }
 
 module _ (f : ℕ) (format : Format) (ok : format_of f ≡ Is format) (setting : ℕ) (small : setting ≤ largest_setting) (count : ℕ) (first : List ℕ) (pieces : List (List ℕ))
     {k : ℕ} {s : State} {d : Desk} {area : List ℕ} {rest : List (List ℕ)} (r : Feeder f setting count first pieces k s d area rest) where
   -- A LINE IS A LINE: what consumer c holds under serial n
-  pub class-line : (c i n : ℕ) → held_by c n (slot_of d i) ≡ true → OneSlot f setting n (in_arow pieces) (slot_at i area)
-  class-line c i n e =
+  pub class_line : (c i n : ℕ) → held_by c n (slot_of d i) ≡ true → OneSlot f setting n (in_arow pieces) (slot_at i area)
+  class_line c i n e =
       let w = of_recording r in
-      subst (λ (x : List ℕ). OneSlot f setting n x (slot_at i area)) w.all (held_pixels f format ok setting small count first w.fed-so c i n e (in_arow rest))
+      subst (λ (x : List ℕ). OneSlot f setting n x (slot_at i area)) w.all (held_pixels f format ok setting small count first w.fed_so c i n e (in_arow rest))
 
   -- and so what it reads where `seen` points
-  pub class-seen : (c i n : ℕ) → (seen_answer d (length area) c i n).refused ≡ 0 → OneSlot f setting n (in_arow pieces) (part_of (seen_answer d (length area) c i n) area)
-  class-seen c i n e =
-      subst (λ (x : List ℕ). OneSlot f setting n (in_arow pieces) x) (sym (seen_slot d c i n area e)) (class-line c i n (seen_it d (length area) c i n e).held)
+  pub class_seen : (c i n : ℕ) → (seen_answer d (length area) c i n).refused ≡ 0 → OneSlot f setting n (in_arow pieces) (part_of (seen_answer d (length area) c i n) area)
+  class_seen c i n e =
+      subst (λ (x : List ℕ). OneSlot f setting n (in_arow pieces) x) (sym (seen_slot d c i n area e)) (class_line c i n (seen_it d (length area) c i n e).held)
 
   -- the desk is one after some history, so all that is said of histories holds of it
-  pub class-history : List Done
-  class-history = run-history f format ok setting small count first (of_recording r).fed-so
+  pub class_history : List Done
+  class_history = run_history f format ok setting small count first (of_recording r).fed_so
 
-  pub class-past : History count d class-history
-  unfolding class-history
-  class-past = run_past f format ok setting small count first (of_recording r).fed-so
+  pub class_past : History count d class_history
+  unfolding class_history
+  class_past = run_past f format ok setting small count first (of_recording r).fed_so

@@ -40,7 +40,7 @@ use Rattle.cuts.proofs.Later.{lines_first}
 use Rattle.feeding.specs.Area.{slot_at, area_after, line_no}
 use Rattle.feeding.specs.Fed as run
 use Rattle.feeding.specs.Fed.{Fed}
-use Rattle.feeding.proofs.Exchanged.{Reached, reached_start, reached-on, reached-got, reached_lines}
+use Rattle.feeding.proofs.Exchanged.{Reached, reached_start, reached_on, reached_got, reached_lines}
 use Rattle.feeding.proofs.Places.{slot_length, put_same, put_other, put_length, no_append, no_last, no_take_is, of_length}
 use Rattle.cuts.proofs.Sized.{read_length}
 
@@ -123,8 +123,8 @@ holds_start f setting count first =
     }
 
 module _ (f setting count k : ℕ) (s : State) (d : Desk) (area bytes : List ℕ) (h : Holds f setting count k s d area bytes) where
-  holds-take : Holds f setting count k s (take_answer d (length area)).desk area bytes
-  holds-take = by (eqb (take_answer d (length area)).refused 0) refl
+  holds_take : Holds f setting count k s (take_answer d (length area)).desk area bytes
+  holds_take = by (eqb (take_answer d (length area)).refused 0) refl
     where
       i : ℕ
       i = lowest_of d
@@ -180,8 +180,8 @@ module _ (f setting count k : ℕ) (s : State) (d : Desk) (area bytes : List ℕ
           })
       by false x = rw (take_kept d (length area) (eqb-false (take_answer d (length area)).refused 0 x)) h
 
-  holds-publish : (i n : ℕ) → n ≤ k → Holds f setting count k s (publish_answer d (length area) i n).desk area bytes
-  holds-publish i n l = by (eqb (publish_answer d (length area) i n).refused 0) refl
+  holds_publish : (i n : ℕ) → n ≤ k → Holds f setting count k s (publish_answer d (length area) i n).desk area bytes
+  holds_publish i n l = by (eqb (publish_answer d (length area) i n).refused 0) refl
     where
       u : Use
       u = Held n true true
@@ -235,8 +235,8 @@ module _ (f setting count k : ℕ) (s : State) (d : Desk) (area bytes : List ℕ
           })
       by false x = rw (publish_kept d (length area) i n (eqb-false (publish_answer d (length area) i n).refused 0 x)) h
 
-  holds-release : (c i n : ℕ) → Holds f setting count k s (release_answer d (length area) c i n).desk area bytes
-  holds-release c i n = by (eqb (release_answer d (length area) c i n).refused 0) refl
+  holds_release : (c i n : ℕ) → Holds f setting count k s (release_answer d (length area) c i n).desk area bytes
+  holds_release c i n = by (eqb (release_answer d (length area) c i n).refused 0) refl
     where
       u : Use
       u = let_go c (slot_of d i)
@@ -333,17 +333,17 @@ module _ (f setting count k : ℕ) (s : State) (d : Desk) (area bytes : List ℕ
         go false x g = rw (other j (eqb-false j i x)) (h.right c j m g)
 
     ready : Ready k d (area_after f setting s p i area) h.ls
-    ready j m e l = rw (other j not-here) (h.ready j m e l)
+    ready j m e l = rw (other j not_here) (h.ready j m e l)
       where
-        not-here : j ≡ i → ⊥
-        not-here z = let y = filling_same m (suc k) (slot_of d i) (ap (slot_of d) (sym z) ∙ e) used in omega arith
+        not_here : j ≡ i → ⊥
+        not_here z = let y = filling_same m (suc k) (slot_of d i) (ap (slot_of d) (sym z) ∙ e) used in omega arith
 
     holds_read : read_answer f setting s p (slot_at i area) ≡ More t s' → Holds f setting count k s' d (area_after f setting s p i area) (bytes ++ take t p)
     holds_read e = record {
       buf = read_left f setting s p (slot_at i area);
       ls = h.ls;
       log = h.log;
-      reach = reached-on h.reach (slot_at i area) (omega (arith, size)) same p t s' e;
+      reach = reached_on h.reach (slot_at i area) (omega (arith, size)) same p t s' e;
       past = h.past;
       slots = h.slots;
       long = h.long;
@@ -354,13 +354,13 @@ module _ (f setting count k : ℕ) (s : State) (d : Desk) (area bytes : List ℕ
       now = λ x. record { slot = i; used = used; same = sym put };
     }
 
-    holds-get : read_answer f setting s p (slot_at i area) ≡ Line t s' → Holds f setting count (suc k) s' d (area_after f setting s p i area) (bytes ++ take t p)
+    holds_get : read_answer f setting s p (slot_at i area) ≡ Line t s' → Holds f setting count (suc k) s' d (area_after f setting s p i area) (bytes ++ take t p)
     unfolding line_in
-    holds-get e = record {
+    holds_get e = record {
       buf = read_left f setting s p (slot_at i area);
       ls = h.ls ++ (l ∷ []);
       log = h.log;
-      reach = reached-got h.reach (slot_at i area) (omega (arith, size)) same p t s' e;
+      reach = reached_got h.reach (slot_at i area) (omega (arith, size)) same p t s' e;
       past = h.past;
       slots = h.slots;
       long = omega (arith, length-append h.ls (l ∷ []), h.long);
@@ -388,13 +388,13 @@ module _ (f setting count k : ℕ) (s : State) (d : Desk) (area bytes : List ℕ
 
 holds : {f setting count : ℕ} {first : List ℕ} {k : ℕ} {s : State} {d : Desk} {area bytes : List ℕ} → Fed f setting count first k s d area bytes → Holds f setting count k s d area bytes
 holds {f} {setting} {count} {first} run.Fed.start = holds_start f setting count first
-holds {f} {setting} {count} (run.Fed.takes {k = k} {s = s} {d = d} {area = area} {fed = bytes} r) = holds-take f setting count k s d area bytes (holds r)
-holds {f} {setting} {count} (run.Fed.publishes {k = k} {s = s} {d = d} {area = area} {fed = bytes} i n r l) = holds-publish f setting count k s d area bytes (holds r) i n l
-holds {f} {setting} {count} (run.Fed.releases {k = k} {s = s} {d = d} {area = area} {fed = bytes} c i n r) = holds-release f setting count k s d area bytes (holds r) c i n
+holds {f} {setting} {count} (run.Fed.takes {k = k} {s = s} {d = d} {area = area} {fed = bytes} r) = holds_take f setting count k s d area bytes (holds r)
+holds {f} {setting} {count} (run.Fed.publishes {k = k} {s = s} {d = d} {area = area} {fed = bytes} i n r l) = holds_publish f setting count k s d area bytes (holds r) i n l
+holds {f} {setting} {count} (run.Fed.releases {k = k} {s = s} {d = d} {area = area} {fed = bytes} c i n r) = holds_release f setting count k s d area bytes (holds r) c i n
 holds {f} {setting} {count} (run.Fed.reads {k = k} {s = s} {d = d} {area = area} {fed = bytes} {t = t} {s' = s'} i p r u e) =
     holds_read f setting count k s d area bytes (holds r) i u p t s' e
 holds {f} {setting} {count} (run.Fed.gets {k = k} {s = s} {d = d} {area = area} {fed = bytes} {t = t} {s' = s'} i p r u e) =
-    holds-get f setting count k s d area bytes (holds r) i u p t s' e
+    holds_get f setting count k s d area bytes (holds r) i u p t s' e
 
 -- the lines of the bits read stand first among those of all the bytes, whatever follows
 still_line : (setting : ℕ) (s : State) (bytes later : List ℕ) (n : ℕ) (l : List ℕ) → line_no n (lines setting (bits_read s bytes)) ≡ some l → line_no n (recorded setting (bytes ++ later)) ≡ some l
@@ -413,8 +413,8 @@ module _ (f : ℕ) (format : Format) (ok : format_of f ≡ Is format) (setting :
     {k : ℕ} {s : State} {d : Desk} {area fed : List ℕ} (r : Fed f setting count first k s d area fed) where
   -- WHAT A HOLDER READS: at every moment, a slot that consumer c holds under serial n has, bit for bit, the n-th line that the
   -- plain definition finds in the bytes fed, whatever bytes will follow them
-  pub held-line : (c i n : ℕ) → held_by c n (slot_of d i) ≡ true → (later : List ℕ) → line_no n (recorded setting (fed ++ later)) ≡ some (bits_of (slot_at i area))
-  held-line c i n e later =
+  pub held_line : (c i n : ℕ) → held_by c n (slot_of d i) ≡ true → (later : List ℕ) → line_no n (recorded setting (fed ++ later)) ≡ some (bits_of (slot_at i area))
+  held_line c i n e later =
       let w = holds r in
       still_line setting s fed later n (bits_of (slot_at i area)) (rw (sym (reached_lines f format ok setting small w.reach)) (w.right c i n e))
 
@@ -422,17 +422,17 @@ module _ (f : ℕ) (format : Format) (ok : format_of f ≡ Is format) (setting :
   pub run_inside : (i : ℕ) → is_free (slot_of d i) ≡ false → Inside d area i
   run_inside i e = (holds r).inside i e
 
-  pub run-slots : length d.slots ≡ 8
-  run-slots = (holds r).slots
+  pub run_slots : length d.slots ≡ 8
+  run_slots = (holds r).slots
 
   -- the lines complete are those of the bits read
-  pub lines-complete : k ≡ length (lines setting (bits_read s fed))
-  lines-complete = let w = holds r in sym w.long ∙ ap length (reached_lines f format ok setting small w.reach)
+  pub lines_complete : k ≡ length (lines setting (bits_read s fed))
+  lines_complete = let w = holds r in sym w.long ∙ ap length (reached_lines f format ok setting small w.reach)
 
   -- the desk is one after some history, so all that is said of histories holds of it
-  pub run-history : List Done
-  run-history = (holds r).log
+  pub run_history : List Done
+  run_history = (holds r).log
 
-  pub run_past : History count d run-history
-  unfolding run-history
+  pub run_past : History count d run_history
+  unfolding run_history
   run_past = (holds r).past

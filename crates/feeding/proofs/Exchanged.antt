@@ -19,7 +19,7 @@ use Rattle.reader.specs.Read.{read_answer, read_left}
 use Rattle.reader_record.specs.Records.{fresh_state}
 use Rattle.reader_record.specs.declared.State.{State}
 use Rattle.reader_line.specs.declared.Answer.TheVariants.{More, Line}
-use Rattle.cuts.proofs.Moments.{at-every-moment}
+use Rattle.cuts.proofs.Moments.{at_every_moment}
 
 -- a moment depends on what was lent up to it
 agree : {f setting : ℕ} {lend : ℕ → List ℕ → List ℕ} (other : ℕ → List ℕ → List ℕ) {first : List ℕ} {k : ℕ} {s : State} {buf bytes : List ℕ} {ls : List (List ℕ)}
@@ -52,9 +52,9 @@ module _ {f setting : ℕ} {s : State} {buf bytes : List ℕ} {ls : List (List �
   next : ℕ → List ℕ → List ℕ
   next j x = cond (eqb j r.calls) b (r.lend j x)
 
-  next-long : (k : ℕ) (x : List ℕ) → 44356 ≤ length x → 44356 ≤ length (next k x)
+  next_long : (k : ℕ) (x : List ℕ) → 44356 ≤ length x → 44356 ≤ length (next k x)
   unfolding next
-  next-long k x l = go (eqb k r.calls)
+  next_long k x l = go (eqb k r.calls)
     where
       go : (c : Bool) → 44356 ≤ length (cond c b (r.lend k x))
       go true = m
@@ -72,10 +72,10 @@ module _ {f setting : ℕ} {s : State} {buf bytes : List ℕ} {ls : List (List �
       go true e = rw e (sym (same e))
       go false e = rw (e, eq-eqb r.calls r.calls refl) refl
 
-  pub reached-on : read_answer f setting s p b ≡ More t s' → Reached f setting s' (read_left f setting s p b) (bytes ++ take t p) ls
-  reached-on e = record {
+  pub reached_on : read_answer f setting s p b ≡ More t s' → Reached f setting s' (read_left f setting s p b) (bytes ++ take t p) ls
+  reached_on e = record {
     lend = next;
-    long = next-long;
+    long = next_long;
     first = r.first;
     room = r.room;
     calls = suc r.calls;
@@ -83,10 +83,10 @@ module _ {f setting : ℕ} {s : State} {buf bytes : List ℕ} {ls : List (List �
         (driven.Moment.on p before (ap (λ (x : List ℕ). read_answer f setting s p x) lent ∙ e));
   }
 
-  pub reached-got : read_answer f setting s p b ≡ Line t s' → Reached f setting s' (read_left f setting s p b) (bytes ++ take t p) (ls ++ (line_in (read_left f setting s p b) ∷ []))
-  reached-got e = record {
+  pub reached_got : read_answer f setting s p b ≡ Line t s' → Reached f setting s' (read_left f setting s p b) (bytes ++ take t p) (ls ++ (line_in (read_left f setting s p b) ∷ []))
+  reached_got e = record {
     lend = next;
-    long = next-long;
+    long = next_long;
     first = r.first;
     room = r.room;
     calls = suc r.calls;
@@ -97,4 +97,4 @@ module _ {f setting : ℕ} {s : State} {buf bytes : List ℕ} {ls : List (List �
 -- the lines handed out are those of the bits read
 pub reached_lines : (f : ℕ) (format : Format) → format_of f ≡ Is format → (setting : ℕ) → setting ≤ largest_setting → {s : State} {buf bytes : List ℕ} {ls : List (List ℕ)} → Reached f setting s buf bytes ls
     → ls ≡ lines setting (bits_read s bytes)
-reached_lines f format ok setting small r = at-every-moment f format ok setting small r.lend r.long r.first r.room r.moment
+reached_lines f format ok setting small r = at_every_moment f format ok setting small r.lend r.long r.first r.room r.moment

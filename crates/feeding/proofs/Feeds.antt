@@ -22,7 +22,7 @@ use Rattle.desk.specs.Calls.{take_answer, publish_answer, release_answer}
 use Rattle.desk_record.specs.declared.Desk.{Desk}
 use Rattle.desk_record.specs.declared.Use.{Use}
 use Rattle.desk_record.specs.declared.Use.TheVariants.{Free, Filling, Held}
-use Rattle.histories.proofs.Accepts.{Sound, take-answers}
+use Rattle.histories.proofs.Accepts.{Sound, take_answers}
 use Rattle.histories.proofs.Exactly.{count_stays}
 use Rattle.desk_whole.proofs.LowestFree.{lowest_here}
 use Rattle.histories.proofs.Past.{empty_slot}
@@ -37,9 +37,9 @@ use Rattle.cuts.proofs.Advances.{takes_most, takes_one}
 use Rattle.feeding.specs.Area.{slot_at, area_after}
 use Rattle.feeding.specs.Fed as run
 use Rattle.feeding.specs.Fed.{Fed}
-use Rattle.feeding.proofs.EndToEnd.{run_inside, run_past, run-slots}
+use Rattle.feeding.proofs.EndToEnd.{run_inside, run_past, run_slots}
 use Rattle.feeding.proofs.Places.{slot_length, put_length}
-use Rattle.feeding.proofs.Serving.{read-served, publish_served, release_served}
+use Rattle.feeding.proofs.Serving.{read_served, publish_served, release_served}
 use Rattle.cuts.proofs.Sized.{read_length}
 
 module _ (f : ℕ) (format : Format) (ok : format_of f ≡ Is format) (setting : ℕ) (small : setting ≤ largest_setting) (count : ℕ) (least : 2 ≤ count) (most : count ≤ 8)
@@ -48,26 +48,26 @@ module _ (f : ℕ) (format : Format) (ok : format_of f ≡ Is format) (setting :
   Run k s d area fed = Fed f setting count first-area k s d area fed
 
   -- the area keeps its length
-  area-length : {k : ℕ} {s : State} {d : Desk} {area fed : List ℕ} → Run k s d area fed → length area ≡ length first-area
-  area-length run.Fed.start = refl
-  area-length (run.Fed.takes r) = area-length r
-  area-length (run.Fed.publishes i n r l) = area-length r
-  area-length (run.Fed.releases c i n r) = area-length r
-  area-length (run.Fed.reads {k = k} {s = s} {d = d} {area = area} i p r u e) =
+  area_length : {k : ℕ} {s : State} {d : Desk} {area fed : List ℕ} → Run k s d area fed → length area ≡ length first-area
+  area_length run.Fed.start = refl
+  area_length (run.Fed.takes r) = area_length r
+  area_length (run.Fed.publishes i n r l) = area_length r
+  area_length (run.Fed.releases c i n r) = area_length r
+  area_length (run.Fed.reads {k = k} {s = s} {d = d} {area = area} i p r u e) =
       let a = run_inside f format ok setting small count first-area r i (rw u refl) in
       put_length i (read_left f setting s p (slot_at i area)) area (omega (arith, a.below, a.room))
       (read_length f setting s p (slot_at i area) ∙ slot_length i d.count area a.below a.room)
-      ∙ area-length r
-  area-length (run.Fed.gets {k = k} {s = s} {d = d} {area = area} i p r u e) =
+      ∙ area_length r
+  area_length (run.Fed.gets {k = k} {s = s} {d = d} {area = area} i p r u e) =
       let a = run_inside f format ok setting small count first-area r i (rw u refl) in
       put_length i (read_left f setting s p (slot_at i area)) area (omega (arith, a.below, a.room))
       (read_length f setting s p (slot_at i area) ∙ slot_length i d.count area a.below a.room)
-      ∙ area-length r
+      ∙ area_length r
 
   sound : {k : ℕ} {s : State} {d : Desk} {area fed : List ℕ} → Run k s d area fed → Sound d (length area)
   sound {d = d} {area = area} r =
       let c : d.count ≡ count = count_stays (run_past f format ok setting small count first-area r) in
-      let l = area-length r in
+      let l = area_length r in
       record {
         least = omega arith;
         most = omega arith;
@@ -84,7 +84,7 @@ module _ (f : ℕ) (format : Format) (ok : format_of f ≡ Is format) (setting :
 
   module _ {k : ℕ} {s : State} {area fed : List ℕ} {n : ℕ} where
     inside : {u : Use} (m : Moved k s area fed u n) → 0 < length m.desk.slots
-    inside m = omega (arith, run-slots f format ok setting small count first-area m.run)
+    inside m = omega (arith, run_slots f format ok setting small count first-area m.run)
 
     take_step : Moved k s area fed Free n → n < last_serial → Moved k s area fed (Filling (suc n)) (suc n)
     unfolding none_refusal first when
@@ -93,7 +93,7 @@ module _ (f : ℕ) (format : Format) (ok : format_of f ≡ Is format) (setting :
         let a = sound m.run in
         let low : lowest_of d ≡ 0 = lowest_here (slot_of d) d.count 0 (omega (arith, a.least)) (rw m.used refl) in
         let none : none_refusal d ≡ 0 = rw (m.last, lt-leb last_serial n l, low, lt-leb d.count 0 (omega (arith, a.least))) refl in
-        let t = took_it d (length area) (take-answers d (length area) a ∙ none) in
+        let t = took_it d (length area) (take_answers d (length area) a ∙ none) in
         record {
           desk = (take_answer d (length area)).desk;
           run = run.Fed.takes m.run;
@@ -101,8 +101,8 @@ module _ (f : ℕ) (format : Format) (ok : format_of f ≡ Is format) (setting :
           last = rw t.desk (ap suc m.last);
         }
 
-    publish-step : (i : ℕ) → Moved k s area fed (Filling i) n → i ≤ k → Moved k s area fed (Held i true true) n
-    publish-step i m l =
+    publish_step : (i : ℕ) → Moved k s area fed (Filling i) n → i ≤ k → Moved k s area fed (Held i true true) n
+    publish_step i m l =
         let d = m.desk in
         let t = published_it d (length area) 0 i (publish_served f format ok setting small count first-area m.run 0 i m.used) in
         record {
@@ -112,8 +112,8 @@ module _ (f : ℕ) (format : Format) (ok : format_of f ≡ Is format) (setting :
           last = rw t.desk m.last;
         }
 
-    release-step : (c i : ℕ) (u : Use) → held_by c i u ≡ true → Moved k s area fed u n → Moved k s area fed (let_go c u) n
-    release-step c i u h m =
+    release_step : (c i : ℕ) (u : Use) → held_by c i u ≡ true → Moved k s area fed u n → Moved k s area fed (let_go c u) n
+    release_step c i u h m =
         let d = m.desk in
         let t = released_it d (length area) c 0 i (release_served f format ok setting small count first-area m.run c 0 i (rw m.used h)) in
         record {
@@ -126,8 +126,8 @@ module _ (f : ℕ) (format : Format) (ok : format_of f ≡ Is format) (setting :
     -- publish, both release, and take again
     turn : (i : ℕ) → Moved k s area fed (Filling i) n → i ≤ k → n < last_serial → Moved k s area fed (Filling (suc n)) (suc n)
     turn i m l b =
-        take_step (release-step 2 i (Held i false true) (rw (eq-eqb i i refl) refl)
-        (release-step 1 i (Held i true true) (rw (eq-eqb i i refl) refl) (publish-step i m l))) b
+        take_step (release_step 2 i (Held i false true) (rw (eq-eqb i i refl) refl)
+        (release_step 1 i (Held i true true) (rw (eq-eqb i i refl) refl) (publish_step i m l))) b
 
   -- where the feeder stands: slot 0 waits for the next line
   record Going (fed : List ℕ) : Type 0 where
@@ -188,7 +188,7 @@ module _ (f : ℕ) (format : Format) (ok : format_of f ≡ Is format) (setting :
   more n fed (y ∷ ys) l g b rest =
       let p : List ℕ = y ∷ ys in
       let a : Answer = read_answer f setting g.s p (slot_at 0 g.area) in
-      let z : refusal_of a ≡ 0 = read-served f format ok setting small count first-area g.now.run 0 (suc g.k) g.now.used p in
+      let z : refusal_of a ≡ 0 = read_served f format ok setting small count first-area g.now.run 0 (suc g.k) g.now.used p in
       let o : 1 ≤ taken_by a = takes_one f setting g.s p (slot_at 0 g.area) z (zero-lt-suc (length ys)) in
       let m : taken_by a ≤ length p = takes_most f setting g.s p (slot_at 0 g.area) in
       let next = step fed p (zero-lt-suc (length ys)) g b a refl z o m in

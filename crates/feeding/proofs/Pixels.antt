@@ -21,7 +21,7 @@ use Rattle.demands.proofs.OneLine.{joined_pixel_is}
 use Rattle.feeding.specs.Area.{slot_at}
 use Rattle.feeding.specs.Fed.{Fed}
 use Rattle.feeding.specs.OneLine.{OneSlot}
-use Rattle.feeding.proofs.EndToEnd.{held-line}
+use Rattle.feeding.proofs.EndToEnd.{held_line}
 
 -- the line in a slot
 slot_line : (i : ℕ) (area : List ℕ) → line_in (slot_at i area) ≡ bits_of (slot_at i area)
@@ -33,7 +33,7 @@ pub held_pixels : (f : ℕ) (format : Format) → format_of f ≡ Is format → 
     → (c i n : ℕ) → held_by c n (slot_of d i) ≡ true → (later : List ℕ) → OneSlot f setting n (fed ++ later) (slot_at i area)
 held_pixels f format ok setting small count first {area = area} r c i n e later = record {
   line = bits_of (slot_at i area);
-  found = held-line f format ok setting small count first r c i n e later;
+  found = held_line f format ok setting small count first r c i n e later;
   stands = refl;
   joined = λ channel out z j h. joined_pixel_is f channel (slot_at i area) out z j h
       ∙ ap (λ (x : List ℕ). joined_pixel (get_or (pixels_of (upper_of channel) x) j 0) (get_or (pixels_of (lower_of channel) x) j 0)) (slot_line i area);

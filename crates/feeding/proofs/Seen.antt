@@ -17,7 +17,7 @@ use Rattle.reader_bits.specs.Lines.{recorded}
 use Rattle.reader_record.specs.declared.State.{State}
 use Rattle.feeding.specs.Area.{slot_at, part_of, line_no}
 use Rattle.feeding.specs.Fed.{Fed}
-use Rattle.feeding.proofs.EndToEnd.{held-line}
+use Rattle.feeding.proofs.EndToEnd.{held_line}
 
 -- the part that `seen` gives is the slot
 pub seen_slot : (d : Desk) (c i n : ℕ) (area : List ℕ) → (seen_answer d (length area) c i n).refused ≡ 0 → part_of (seen_answer d (length area) c i n) area ≡ slot_at i area
@@ -32,5 +32,5 @@ pub seen_line : (f : ℕ) (format : Format) → format_of f ≡ Is format → (s
     → (c i n : ℕ) → (seen_answer d (length area) c i n).refused ≡ 0
     → (later : List ℕ) → line_no n (recorded setting (fed ++ later)) ≡ some (bits_of (part_of (seen_answer d (length area) c i n) area))
 seen_line f format ok setting small count first {d = d} {area = area} r c i n e later =
-    held-line f format ok setting small count first r c i n (seen_it d (length area) c i n e).held later
+    held_line f format ok setting small count first r c i n (seen_it d (length area) c i n e).held later
     ∙ ap (λ (x : List ℕ). some (bits_of x)) (sym (seen_slot d c i n area e))

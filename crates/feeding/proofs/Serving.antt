@@ -15,7 +15,7 @@ use Rattle.desk.specs.Calls.{publish_answer, release_answer}
 use Rattle.desk_record.specs.declared.Desk.{Desk}
 use Rattle.desk_record.specs.declared.Use.{Use}
 use Rattle.desk_record.specs.declared.Use.TheVariants.{Free, Filling, Held}
-use Rattle.histories.proofs.Accepts.{Sound, publish-accepts, release-accepts}
+use Rattle.histories.proofs.Accepts.{Sound, publish_accepts, release_accepts}
 use Rattle.histories.proofs.StaysPossible.{always_possible}
 use Rattle.reader_bits.specs.Call.{Call, more, whole, call}
 use Rattle.reader_bits.specs.Phase.{Phase, seeking, Bench}
@@ -53,8 +53,8 @@ not_refused (Line t s) h = refl
 
 module _ (f : ℕ) (format : Format) (ok : format_of f ≡ Is format) (setting : ℕ) (small : setting ≤ largest_setting) where
   -- with a full-size buffer a call on such a record is not refused, and leaves such a record
-  pub good-call : (s : State) → GoodNow s → (p b : List ℕ) → 44356 ≤ length b → GoodBy (read_answer f setting s p b)
-  good-call s h p b m =
+  pub good_call : (s : State) → GoodNow s → (p b : List ℕ) → 44356 ≤ length b → GoodBy (read_answer f setting s p b)
+  good_call s h p b m =
       subst GoodBy (sym (ap (λ (x : State). read_answer f setting x p b) h.same ∙ answers f format ok setting small h.phase h.left h.unread p b h.good m))
       (go (call (step_of setting) done_of (h.phase, b) h.left h.unread p) (left_call setting p h.phase b h.left h.unread h.good m))
     where
@@ -63,26 +63,26 @@ module _ (f : ℕ) (format : Format) (ok : format_of f ≡ Is format) (setting :
       go (whole t x n v) l = record { phase = x.0; left = n; unread = v; same = refl; good = l.0 }
 
   module _ (count : ℕ) (first : List ℕ) where
-    filled-length : {k : ℕ} {s : State} {d : Desk} {area fed : List ℕ} → Fed f setting count first k s d area fed → (i n : ℕ) → slot_of d i ≡ Filling n
+    filled_length : {k : ℕ} {s : State} {d : Desk} {area fed : List ℕ} → Fed f setting count first k s d area fed → (i n : ℕ) → slot_of d i ≡ Filling n
         → 44356 ≤ length (slot_at i area)
-    filled-length {d = d} {area = area} r i n e =
+    filled_length {d = d} {area = area} r i n e =
         let a = run_inside f format ok setting small count first r i (rw e refl) in
         omega (arith, slot_length i d.count area a.below a.room)
 
-    pub run-good : {k : ℕ} {s : State} {d : Desk} {area fed : List ℕ} → Fed f setting count first k s d area fed → GoodNow s
-    run-good run.Fed.start = record { phase = seeking 0 0; left = 0; unread = 0; same = refl; good = fresh_good }
-    run-good (run.Fed.takes r) = run-good r
-    run-good (run.Fed.publishes i n r l) = run-good r
-    run-good (run.Fed.releases c i n r) = run-good r
-    run-good (run.Fed.reads {k = k} {s = s} {d = d} {area = area} i p r u e) =
-        subst GoodBy e (good-call s (run-good r) p (slot_at i area) (filled-length r i (suc k) u))
-    run-good (run.Fed.gets {k = k} {s = s} {d = d} {area = area} i p r u e) =
-        subst GoodBy e (good-call s (run-good r) p (slot_at i area) (filled-length r i (suc k) u))
+    pub run_good : {k : ℕ} {s : State} {d : Desk} {area fed : List ℕ} → Fed f setting count first k s d area fed → GoodNow s
+    run_good run.Fed.start = record { phase = seeking 0 0; left = 0; unread = 0; same = refl; good = fresh_good }
+    run_good (run.Fed.takes r) = run_good r
+    run_good (run.Fed.publishes i n r l) = run_good r
+    run_good (run.Fed.releases c i n r) = run_good r
+    run_good (run.Fed.reads {k = k} {s = s} {d = d} {area = area} i p r u e) =
+        subst GoodBy e (good_call s (run_good r) p (slot_at i area) (filled_length r i (suc k) u))
+    run_good (run.Fed.gets {k = k} {s = s} {d = d} {area = area} i p r u e) =
+        subst GoodBy e (good_call s (run_good r) p (slot_at i area) (filled_length r i (suc k) u))
 
     module _ {k : ℕ} {s : State} {d : Desk} {area fed : List ℕ} (r : Fed f setting count first k s d area fed) where
       -- A READ with a slot that is being filled is served, whatever the piece
-      pub read-served : (i n : ℕ) → slot_of d i ≡ Filling n → (p : List ℕ) → refusal_of (read_answer f setting s p (slot_at i area)) ≡ 0
-      read-served i n e p = not_refused (read_answer f setting s p (slot_at i area)) (good-call s (run-good r) p (slot_at i area) (filled-length r i n e))
+      pub read_served : (i n : ℕ) → slot_of d i ≡ Filling n → (p : List ℕ) → refusal_of (read_answer f setting s p (slot_at i area)) ≡ 0
+      read_served i n e p = not_refused (read_answer f setting s p (slot_at i area)) (good_call s (run_good r) p (slot_at i area) (filled_length r i n e))
 
       askable : (i : ℕ) → is_free (slot_of d i) ≡ false → Sound d (length area)
       askable i e =
@@ -92,12 +92,12 @@ module _ (f : ℕ) (format : Format) (ok : format_of f ≡ Is format) (setting :
       -- A PUBLISH of a slot that is being filled
       pub publish_served : (i n : ℕ) → slot_of d i ≡ Filling n → (publish_answer d (length area) i n).refused ≡ 0
       publish_served i n e =
-          publish-accepts d (length area) (askable i (rw e refl)) i n (run_inside f format ok setting small count first r i (rw e refl)).below e
+          publish_accepts d (length area) (askable i (rw e refl)) i n (run_inside f format ok setting small count first r i (rw e refl)).below e
 
       -- A RELEASE of a hold
       pub release_served : (c i n : ℕ) → held_by c n (slot_of d i) ≡ true → (release_answer d (length area) c i n).refused ≡ 0
       release_served c i n e =
-          release-accepts d (length area) (askable i (busy (slot_of d i) e)) c i n (run_inside f format ok setting small count first r i (busy (slot_of d i) e)).below e
+          release_accepts d (length area) (askable i (busy (slot_of d i) e)) c i n (run_inside f format ok setting small count first r i (busy (slot_of d i) e)).below e
         where
           busy : (u : Use) → held_by c n u ≡ true → is_free u ≡ false
           busy Free x = absurd (false≢true x)

@@ -70,25 +70,25 @@ no_dummy = refl
 
 -- what holds of a format's windows, before its first line and before each later one
 pub record Windows (f : Format) : Type 0 where
-  pub before-first : (k : ℕ) → k + 64 < f.sync → 9 ≤ apart tail (take 64 (drop k (first_searched f)))
-  pub before-next : (k : ℕ) → k + 64 < f.dummy + f.sync → 9 ≤ apart tail (take 64 (drop k (next_searched f)))
+  pub before_first : (k : ℕ) → k + 64 < f.sync → 9 ≤ apart tail (take 64 (drop k (first_searched f)))
+  pub before_next : (k : ℕ) → k + 64 < f.dummy + f.sync → 9 ≤ apart tail (take 64 (drop k (next_searched f)))
 
 windows_1 : Windows svissr
 unfolding first_searched next_searched
 windows_1 =
     record {
-      before-first = λ k h. sync_1 k (omega arith);
-      before-next = λ k h. subst (λ (d : List ℕ). 9 ≤ apart tail (take 64 (drop k (d ++ SYNC 10000)))) (sym no_dummy) (sync_1 k (omega arith));
+      before_first = λ k h. sync_1 k (omega arith);
+      before_next = λ k h. subst (λ (d : List ℕ). 9 ≤ apart tail (take 64 (drop k (d ++ SYNC 10000)))) (sym no_dummy) (sync_1 k (omega arith));
     }
 
 windows_2 : Windows hirid
 unfolding first_searched next_searched
-windows_2 = record { before-first = λ k h. sync_2 k (omega arith); before-next = λ k h. next_2 k (omega arith) }
+windows_2 = record { before_first = λ k h. sync_2 k (omega arith); before_next = λ k h. next_2 k (omega arith) }
 
 -- windows go by the lengths alone, and format 3 has those of format 1
 windows_3 : Windows svissr_ones
 unfolding first_searched next_searched
-windows_3 = record { before-first = windows_1.before-first; before-next = windows_1.before-next }
+windows_3 = record { before_first = windows_1.before_first; before_next = windows_1.before_next }
 
 -- EACH EARLIER WINDOW DIFFERS IN AT LEAST NINE PLACES
 pub earlier_apart : (n : ℕ) (f : Format) → format_of n ≡ Is f → Windows f
@@ -96,15 +96,15 @@ earlier_apart = of_each Windows windows_1 windows_2 windows_3
 
 -- NO EARLIER WINDOW IS THE TAIL
 pub record NotTail (f : Format) : Type 0 where
-  pub before-first : (k : ℕ) → k + 64 < f.sync → take 64 (drop k (first_searched f)) ≢ tail
-  pub before-next : (k : ℕ) → k + 64 < f.dummy + f.sync → take 64 (drop k (next_searched f)) ≢ tail
+  pub before_first : (k : ℕ) → k + 64 < f.sync → take 64 (drop k (first_searched f)) ≢ tail
+  pub before_next : (k : ℕ) → k + 64 < f.dummy + f.sync → take 64 (drop k (next_searched f)) ≢ tail
 
 pub earlier_not_tail : (n : ℕ) (f : Format) → format_of n ≡ Is f → NotTail f
 earlier_not_tail n f e =
     let w = earlier_apart n f e in
     record {
-      before-first = λ k h. apart_other tail (take 64 (drop k (first_searched f))) (some (w.before-first k h));
-      before-next = λ k h. apart_other tail (take 64 (drop k (next_searched f))) (some (w.before-next k h));
+      before_first = λ k h. apart_other tail (take 64 (drop k (first_searched f))) (some (w.before_first k h));
+      before_next = λ k h. apart_other tail (take 64 (drop k (next_searched f))) (some (w.before_next k h));
     }
   where
     some : {a : ℕ} → 9 ≤ a → 0 < a

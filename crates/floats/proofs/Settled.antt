@@ -5,7 +5,7 @@ use mathlib.Core.Path.{◌≡◌, refl, sym, subst}
 use Prim.Native.Nat.{ℕ, zero, suc}
 use native.Mathlib.Omega.{arith}
 use Rattle.refusals.specs.Refusals.{answered}
-use Rattle.refusals.proofs.Says.{Kind, Says, says_is, says-carried}
+use Rattle.refusals.proofs.Says.{Kind, Says, says_is, says_carried}
 use Rattle.numbers.specs.declared.R.{R}
 use Rattle.numbers.specs.declared.Real.{Real}
 use Rattle.numbers.specs.declared.Real.TheVariants as real
@@ -16,10 +16,10 @@ use Rattle.floats.specs.Floats.{zero_float, float_number, float_value, Fits, Fit
 
 pub floats : Kind float.Refused float.Is float_number float_value zero_float
 floats = record {
-  number-refused = λ n. refl;
-  number-given = λ v. refl;
-  value-refused = λ n. refl;
-  value-given = λ v. refl;
+  number_refused = λ n. refl;
+  number_given = λ v. refl;
+  value_refused = λ n. refl;
+  value_given = λ v. refl;
   apart = λ v e. let z : ◌≡◌ {A = ℕ} 0 1 = cc in let w : ⊥ = omega arith in w;
   either = each;
 }
@@ -44,4 +44,4 @@ says_fits k v a s h = subst FitsIn (sym (says_is reals k v a s)) (go k h)
 -- and in f64 it is refused as the R is, and else is its value
 pub says_float : (k : ℕ) (v : R) (a : Real) (x : Float) → Says reals k v a → x ≡ as_float a → Says floats k (value_of v) x
 unfolding as_float
-says_float = says-carried reals floats as_float value_of (λ n. refl) (λ v. refl)
+says_float = says_carried reals floats as_float value_of (λ n. refl) (λ v. refl)

@@ -13,10 +13,10 @@ use Rattle.formats.specs.declared.FormatAnswer.TheVariants.{Is, Refused}
 
 named : Kind Refused Is format_number format_in no_format
 named = record {
-  number-refused = λ n. refl;
-  number-given = λ f. refl;
-  value-refused = λ n. refl;
-  value-given = λ f. refl;
+  number_refused = λ n. refl;
+  number_given = λ f. refl;
+  value_refused = λ n. refl;
+  value_given = λ f. refl;
   apart = λ f e. let z : ◌≡◌ {A = ℕ} 0 1 = cc in let w : ⊥ = omega arith in w;
   either = each;
 }
@@ -50,8 +50,8 @@ module _ (n : ℕ) where
       go false false true = refl
       go false false false = refl
 
-  pub format-told : (r : FormatAnswer) → r ≡ format_of n → FormatOk n r
-  format-told r e = let h = says_of named r (format_refusal n) (named_by n) (e ∙ formed) in (h.0, h.1 ∙ sym none_named, h.2)
+  pub format_told : (r : FormatAnswer) → r ≡ format_of n → FormatOk n r
+  format_told r e = let h = says_of named r (format_refusal n) (named_by n) (e ∙ formed) in (h.0, h.1 ∙ sym none_named, h.2)
 
-  pub format-is : (r : FormatAnswer) → FormatOk n r → r ≡ format_of n
-  format-is r s = says_is named (format_refusal n) (named_by n) r (s.0, s.1 ∙ none_named, s.2) ∙ sym formed
+  pub format_is : (r : FormatAnswer) → FormatOk n r → r ≡ format_of n
+  format_is r s = says_is named (format_refusal n) (named_by n) r (s.0, s.1 ∙ none_named, s.2) ∙ sym formed

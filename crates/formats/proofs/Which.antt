@@ -8,7 +8,7 @@ use Rattle.refusals.specs.Refusals.{when}
 use Rattle.formats.specs.Formats.{svissr, hirid, svissr_ones, format_of, unknown, format_number, format_refusal, no_format, format_in, named_by, check_start, information_bits, line_bytes}
 use Rattle.formats.specs.declared.Format.{Format}
 use Rattle.formats.specs.declared.FormatAnswer.TheVariants.{Is, Refused}
-use Rattle.formats.proofs.Settled.{format-told}
+use Rattle.formats.proofs.Settled.{format_told}
 
 -- WHAT HOLDS OF EACH FORMAT holds of the one that a number names
 pub of_each : (P : Format → Type 0) → P svissr → P hirid → P svissr_ones → (n : ℕ) (f : Format) → format_of n ≡ Is f → P f
@@ -22,20 +22,20 @@ of_each P p q r n f = go (eqb n 1) (eqb n 2) (eqb n 3)
 
 -- the parts of a line, in bytes
 pub record Parts (f : Format) : Type 0 where
-  pub sync-whole : f.sync ≡ f.sync / 8 * 8
-  pub dummy-whole : f.dummy ≡ f.dummy / 8 * 8
-  pub information-is : f.information ≡ information_bits
+  pub sync_whole : f.sync ≡ f.sync / 8 * 8
+  pub dummy_whole : f.dummy ≡ f.dummy / 8 * 8
+  pub information_is : f.information ≡ information_bits
   pub all : f.bytes ≡ f.sync / 8 + line_bytes + f.dummy / 8
   pub small : f.bytes < 50000
 
 parts_1 : Parts svissr
-parts_1 = record { sync-whole = refl; dummy-whole = refl; information-is = refl; all = refl; small = lit< tt }
+parts_1 = record { sync_whole = refl; dummy_whole = refl; information_is = refl; all = refl; small = lit< tt }
 
 parts_2 : Parts hirid
-parts_2 = record { sync-whole = refl; dummy-whole = refl; information-is = refl; all = refl; small = lit< tt }
+parts_2 = record { sync_whole = refl; dummy_whole = refl; information_is = refl; all = refl; small = lit< tt }
 
 parts_3 : Parts svissr_ones
-parts_3 = record { sync-whole = refl; dummy-whole = refl; information-is = refl; all = refl; small = lit< tt }
+parts_3 = record { sync_whole = refl; dummy_whole = refl; information_is = refl; all = refl; small = lit< tt }
 
 pub parts : (n : ℕ) (f : Format) → format_of n ≡ Is f → Parts f
 parts = of_each Parts parts_1 parts_2 parts_3
@@ -53,13 +53,13 @@ named n = go (eqb n 1) (eqb n 2) (eqb n 3) refl
     go true b c is e = record { format = svissr; is = is }
     go false true c is e = record { format = hirid; is = is }
     go false false true is e = record { format = svissr_ones; is = is }
-    go false false false is e = absurd (let z : ◌≡◌ {A = ℕ} 1 0 = sym (ap format_number is) ∙ (format-told n (format_of n) refl).0 ∙ e in let w : ⊥ = omega arith in w)
+    go false false false is e = absurd (let z : ◌≡◌ {A = ℕ} 1 0 = sym (ap format_number is) ∙ (format_told n (format_of n) refl).0 ∙ e in let w : ⊥ = omega arith in w)
 
 pub is_known : (n : ℕ) (f : Format) → format_of n ≡ Is f → format_refusal n ≡ 0
-is_known n f e = sym (format-told n (format_of n) refl).0 ∙ ap format_number e
+is_known n f e = sym (format_told n (format_of n) refl).0 ∙ ap format_number e
 
 pub is_unknown : (n k : ℕ) → format_of n ≡ Refused k → format_refusal n ≡ k
-is_unknown n k e = sym (format-told n (format_of n) refl).0 ∙ ap format_number e
+is_unknown n k e = sym (format_told n (format_of n) refl).0 ∙ ap format_number e
 
 -- 1 exactly where the number names none
 pub refused_when : (n : ℕ) → format_refusal n ≡ when (unknown n) 1
@@ -67,11 +67,11 @@ unfolding format_refusal
 refused_when n = refl
 
 pub named_by_is : (n : ℕ) (f : Format) → format_of n ≡ Is f → named_by n ≡ f
-named_by_is n f e = sym (format-told n (format_of n) refl).1 ∙ ap format_in e
+named_by_is n f e = sym (format_told n (format_of n) refl).1 ∙ ap format_in e
 
 -- a number that names none is refused
 pub some_number : (n k : ℕ) → format_of n ≡ Refused k → k ≡ 0 → ⊥
-some_number n k e z = (format-told n (format_of n) refl).2 (e ∙ ap Refused z)
+some_number n k e z = (format_told n (format_of n) refl).2 (e ∙ ap Refused z)
 
 -- ---- the start value of the check
 

@@ -22,27 +22,27 @@ pub record Sound (d : Desk) (area : ℕ) : Type 0 where
   pub room : d.count * line_bytes ≤ area
 
 module _ (d : Desk) (area : ℕ) (s : Sound d area) where
-  count-zero : count_refusal d ≡ 0
+  count_zero : count_refusal d ≡ 0
   unfolding count_refusal
-  count-zero = within 2 8 d.count 19 s.least s.most
+  count_zero = within 2 8 d.count 19 s.least s.most
 
-  rest-zero : rest_refusal d area ≡ 0
+  rest_zero : rest_refusal d area ≡ 0
   unfolding rest_refusal short_of first when
-  rest-zero = rw (s.possible, le-ltb area (d.count * line_bytes) s.room) refl
+  rest_zero = rw (s.possible, le-ltb area (d.count * line_bytes) s.room) refl
 
-  slot-zero : (i : ℕ) → i < d.count → slot_refusal d i ≡ 0
+  slot_zero : (i : ℕ) → i < d.count → slot_refusal d i ≡ 0
   unfolding slot_refusal first when
-  slot-zero i l = rw (count-zero, lt-leb d.count i l) refl
+  slot_zero i l = rw (count_zero, lt-leb d.count i l) refl
 
   -- A TAKE is refused with 18 or 16 only
-  pub take-answers : (take_answer d area).refused ≡ none_refusal d
+  pub take_answers : (take_answer d area).refused ≡ none_refusal d
   unfolding take_refusal first
-  take-answers = take_number d area ∙ rw (count-zero, rest-zero) refl
+  take_answers = take_number d area ∙ rw (count_zero, rest_zero) refl
 
-  pub publish-accepts : (i n : ℕ) → i < d.count → slot_of d i ≡ Filling n → (publish_answer d area i n).refused ≡ 0
+  pub publish_accepts : (i n : ℕ) → i < d.count → slot_of d i ≡ Filling n → (publish_answer d area i n).refused ≡ 0
   unfolding publish_refusal first when
-  publish-accepts i n l e = publish_number d area i n ∙ rw (slot-zero i l, rest-zero, e, eq-eqb n n refl) refl
+  publish_accepts i n l e = publish_number d area i n ∙ rw (slot_zero i l, rest_zero, e, eq-eqb n n refl) refl
 
-  pub release-accepts : (c i n : ℕ) → i < d.count → held_by c n (slot_of d i) ≡ true → (release_answer d area c i n).refused ≡ 0
+  pub release_accepts : (c i n : ℕ) → i < d.count → held_by c n (slot_of d i) ≡ true → (release_answer d area c i n).refused ≡ 0
   unfolding release_refusal first when
-  release-accepts c i n l e = release_number d area c i n ∙ rw (slot-zero i l, rest-zero, e) refl
+  release_accepts c i n l e = release_number d area c i n ∙ rw (slot_zero i l, rest_zero, e) refl

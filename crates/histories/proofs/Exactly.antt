@@ -23,9 +23,9 @@ held_or_free n false false e = (refl, refl)
 
 module _ {count : ℕ} {d : Desk} {log : List Done} (h : History count d log) (i : ℕ) where
   -- SLOT i IS FREE EXACTLY WHERE it was never taken, or its last line was since published and released by both
-  pub free-exactly : slot_of d i ≡ Free ↔ ((last_take i log ≡ none) ⊎ Gone i log)
+  pub free_exactly : slot_of d i ≡ Free ↔ ((last_take i log ≡ none) ⊎ Gone i log)
   unfolding used_by
-  free-exactly = (λ e. to (last_take i log) refl (sym (slot_history h i) ∙ e), from)
+  free_exactly = (λ e. to (last_take i log) refl (sym (slot_history h i) ∙ e), from)
     where
       to : (o : Option ℕ) → last_take i log ≡ o → use_since i (last_take i log) (since i log) ≡ Free → (last_take i log ≡ none) ⊎ Gone i log
       to none l e = inl l
@@ -44,9 +44,9 @@ module _ {count : ℕ} {d : Desk} {log : List Done} (h : History count d log) (i
       from (inr g) = slot_history h i ∙ rw (g.last, g.out, g.first, g.second) refl
 
   -- BEING FILLED UNDER n EXACTLY WHERE its last take had n and no publish of it came since
-  pub filling-exactly : (n : ℕ) → slot_of d i ≡ Filling n ↔ Waiting i n log
+  pub filling_exactly : (n : ℕ) → slot_of d i ≡ Filling n ↔ Waiting i n log
   unfolding used_by
-  filling-exactly n = (λ e. to (last_take i log) refl (sym (slot_history h i) ∙ e), λ w. slot_history h i ∙ rw (w.last, w.out) refl)
+  filling_exactly n = (λ e. to (last_take i log) refl (sym (slot_history h i) ∙ e), λ w. slot_history h i ∙ rw (w.last, w.out) refl)
     where
       to : (o : Option ℕ) → last_take i log ≡ o → use_since i (last_take i log) (since i log) ≡ Filling n → Waiting i n log
       to none l e = let y : Free ≡ Filling n = rw l at e in absurd (let z : ◌≡◌ {A = ℕ} 0 1 = cc in omega arith)
@@ -62,9 +62,9 @@ module _ {count : ℕ} {d : Desk} {log : List Done} (h : History count d log) (i
               record { last = l ∙ ap some z; out = rw (sym z) f }
 
   -- HELD BY c UNDER n EXACTLY WHERE its last take had n, a publish came since, and no release by c
-  pub held-exactly : (c n : ℕ) → (c ≡ 1) ⊎ (c ≡ 2) → held_by c n (slot_of d i) ≡ true ↔ Keeps c i n log
+  pub held_exactly : (c n : ℕ) → (c ≡ 1) ⊎ (c ≡ 2) → held_by c n (slot_of d i) ≡ true ↔ Keeps c i n log
   unfolding used_by
-  held-exactly c n w = (λ e. to (last_take i log) refl (rw (slot_history h i) at e), from)
+  held_exactly c n w = (λ e. to (last_take i log) refl (rw (slot_history h i) at e), from)
     where
       mine : (m : ℕ) (p q : Bool) → held_by c n (held_or m p q) ≡ true → (m ≡ n) × (of_both c p q ≡ true)
       mine m true q e = two (eqb m n) refl e

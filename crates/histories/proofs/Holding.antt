@@ -19,8 +19,8 @@ use Rattle.histories.proofs.Past.{held_serial}
 use Rattle.histories.proofs.Steps.{slot_same, slot_other, take_kept, publish_kept, release_kept, took_it, published_it, released_it}
 
 module _ (d : Desk) (area c i n : ℕ) (h : held_by c n (slot_of d i) ≡ true) where
-  pub take-keeps : held_by c n (slot_of (take_answer d area).desk i) ≡ true
-  take-keeps = by (eqb (take_answer d area).refused 0) refl
+  pub take_keeps : held_by c n (slot_of (take_answer d area).desk i) ≡ true
+  take_keeps = by (eqb (take_answer d area).refused 0) refl
     where
       by : (t : Bool) → eqb (take_answer d area).refused 0 ≡ t → held_by c n (slot_of (take_answer d area).desk i) ≡ true
       by true x =
@@ -28,8 +28,8 @@ module _ (d : Desk) (area c i n : ℕ) (h : held_by c n (slot_of d i) ≡ true) 
           rw (t.desk, slot_other d (lowest_of d) i (Filling (suc d.last)) (λ z. false≢true (rw (z, t.free) at h))) h
       by false x = rw (take_kept d area (eqb-false (take_answer d area).refused 0 x)) h
 
-  pub publish-keeps : (j m : ℕ) → held_by c n (slot_of (publish_answer d area j m).desk i) ≡ true
-  publish-keeps j m = by (eqb (publish_answer d area j m).refused 0) refl
+  pub publish_keeps : (j m : ℕ) → held_by c n (slot_of (publish_answer d area j m).desk i) ≡ true
+  publish_keeps j m = by (eqb (publish_answer d area j m).refused 0) refl
     where
       by : (t : Bool) → eqb (publish_answer d area j m).refused 0 ≡ t → held_by c n (slot_of (publish_answer d area j m).desk i) ≡ true
       by true x =
@@ -38,23 +38,23 @@ module _ (d : Desk) (area c i n : ℕ) (h : held_by c n (slot_of d i) ≡ true) 
       by false x = rw (publish_kept d area j m (eqb-false (publish_answer d area j m).refused 0 x)) h
 
   -- one slot is held under one serial
-  one-serial : (b m : ℕ) (u : Use) → held_by c n u ≡ true → held_by b m u ≡ true → m ≡ n
-  one-serial b m Free x y = absurd (false≢true x)
-  one-serial b m (Filling k) x y = absurd (false≢true x)
-  one-serial b m (Held k p q) x y = sym (held_serial b m k p q y) ∙ held_serial c n k p q x
+  one_serial : (b m : ℕ) (u : Use) → held_by c n u ≡ true → held_by b m u ≡ true → m ≡ n
+  one_serial b m Free x y = absurd (false≢true x)
+  one_serial b m (Filling k) x y = absurd (false≢true x)
+  one_serial b m (Held k p q) x y = sym (held_serial b m k p q y) ∙ held_serial c n k p q x
 
-  pub release-keeps : length d.slots ≡ 8 → (b j m : ℕ) → (b ≡ c → j ≡ i → m ≡ n → ⊥) → held_by c n (slot_of (release_answer d area b j m).desk i) ≡ true
-  release-keeps l b j m other = by (eqb b c) refl (eqb (release_answer d area b j m).refused 0) refl
+  pub release_keeps : length d.slots ≡ 8 → (b j m : ℕ) → (b ≡ c → j ≡ i → m ≡ n → ⊥) → held_by c n (slot_of (release_answer d area b j m).desk i) ≡ true
+  release_keeps l b j m other = by (eqb b c) refl (eqb (release_answer d area b j m).refused 0) refl
     where
       by : (s : Bool) → eqb b c ≡ s → (t : Bool) → eqb (release_answer d area b j m).refused 0 ≡ t → held_by c n (slot_of (release_answer d area b j m).desk i) ≡ true
       by false y t x = release_leaves d area b j m l c i n (λ z. eqb-false b c y (sym z)) ∙ h
       by true y false x = rw (release_kept d area b j m (eqb-false (release_answer d area b j m).refused 0 x)) h
       by true y true x =
           let t = released_it d area b j m (eqb-true (release_answer d area b j m).refused 0 x) in
-          rw (t.desk, slot_other d j i (let_go b (slot_of d j)) (λ z. other (eqb-true b c y) (sym z) (one-serial b m (slot_of d j) (rw z at h) t.held))) h
+          rw (t.desk, slot_other d j i (let_go b (slot_of d j)) (λ z. other (eqb-true b c y) (sym z) (one_serial b m (slot_of d j) (rw z at h) t.held))) h
 
   -- its own release ends it
-  pub release-ends : length d.slots ≡ 8 → (release_answer d area c i n).refused ≡ 0 → held_by c n (slot_of (release_answer d area c i n).desk i) ≡ false
-  release-ends l e =
+  pub release_ends : length d.slots ≡ 8 → (release_answer d area c i n).refused ≡ 0 → held_by c n (slot_of (release_answer d area c i n).desk i) ≡ false
+  release_ends l e =
       let t = released_it d area c i n e in
       rw (t.desk, slot_same d i (let_go c (slot_of d i)) (omega (arith, t.served.below, t.served.counts.most))) (let_gone c n (slot_of d i))

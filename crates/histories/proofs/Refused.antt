@@ -83,24 +83,24 @@ sound_when d area ts =
 module _ (d : Desk) (area : ℕ) where
   -- ---- A TAKE
 
-  pub take-19 : (take_refusal d area ≡ 19) ↔ (outside 2 8 d.count ≡ true)
+  pub take_19 : (take_refusal d area ≡ 19) ↔ (outside 2 8 d.count ≡ true)
   unfolding first_of
-  take-19 =
+  take_19 =
       let own = exactly 19 [] (desk_test d ∷ area_test d area ∷ serial_test d ∷ free_test d ∷ []) (outside 2 8 d.count) (λ z. omega arith) refl refl in
       (λ e. (own.0 (sym (take_tests_is d area) ∙ e)).1, λ h. take_tests_is d area ∙ own.1 (refl, h))
 
-  pub take-12 : (take_refusal d area ≡ 12) ↔ (Counted d × (possible_of d ≡ false))
+  pub take_12 : (take_refusal d area ≡ 12) ↔ (Counted d × (possible_of d ≡ false))
   unfolding first_of
-  take-12 =
+  take_12 =
       let own = exactly 12 (count_test d ∷ []) (area_test d area ∷ serial_test d ∷ free_test d ∷ []) (not (possible_of d)) (λ z. omega arith) refl refl in
       let before = none_more 18 (outside 2 8 d.count) [] in (
         λ e. let h = own.0 (sym (take_tests_is d area) ∙ e) in ((counted_when d).0 (before.0 h.0).0, not-true _ h.1),
         λ h. take_tests_is d area ∙ own.1 (before.1 ((counted_when d).1 h.0, refl), ap not h.1),
       )
 
-  pub take-2 : (take_refusal d area ≡ 2) ↔ (Counted d × (possible_of d ≡ true) × (area < d.count * line_bytes))
+  pub take_2 : (take_refusal d area ≡ 2) ↔ (Counted d × (possible_of d ≡ true) × (area < d.count * line_bytes))
   unfolding first_of
-  take-2 =
+  take_2 =
       let own = exactly 2 (count_test d ∷ desk_test d ∷ []) (serial_test d ∷ free_test d ∷ []) (ltb area (d.count * line_bytes)) (λ z. omega arith) refl refl in
       let a = none_more 18 (outside 2 8 d.count) (desk_test d ∷ []) in
       let b = none_more 11 (not (possible_of d)) [] in (
@@ -111,9 +111,9 @@ module _ (d : Desk) (area : ℕ) where
       )
 
   -- serials are used up
-  pub take-18 : (take_refusal d area ≡ 18) ↔ (Sound d area × (last_serial ≤ d.last))
+  pub take_18 : (take_refusal d area ≡ 18) ↔ (Sound d area × (last_serial ≤ d.last))
   unfolding first_of
-  take-18 =
+  take_18 =
       let own = exactly 18 (count_test d ∷ desk_test d ∷ area_test d area ∷ []) (free_test d ∷ []) (leb last_serial d.last) (λ z. omega arith) refl refl in
       let before = sound_when d area [] in (
         λ e. let h = own.0 (sym (take_tests_is d area) ∙ e) in ((before.0 h.0).0, leb-true _ _ h.1),
@@ -121,9 +121,9 @@ module _ (d : Desk) (area : ℕ) where
       )
 
   -- SERIALS REMAIN AND NO SLOT IS FREE
-  pub take-16 : (take_refusal d area ≡ 16) ↔ (Sound d area × (d.last < last_serial) × ((j : ℕ) → j < d.count → is_free (slot_of d j) ≡ false))
+  pub take_16 : (take_refusal d area ≡ 16) ↔ (Sound d area × (d.last < last_serial) × ((j : ℕ) → j < d.count → is_free (slot_of d j) ≡ false))
   unfolding first_of
-  take-16 =
+  take_16 =
       let own = exactly 16 (count_test d ∷ desk_test d ∷ area_test d area ∷ serial_test d ∷ []) [] (leb d.count (lowest_of d)) (λ z. omega arith) refl refl in
       let before = sound_when d area (serial_test d ∷ []) in
       let serials = none_more 17 (leb last_serial d.last) [] in (
@@ -138,15 +138,15 @@ module _ (d : Desk) (area : ℕ) where
   -- ---- A PUBLISH, A RELEASE AND `seen`, by whether what is asked for is there: a slot being filled under the serial, a hold
 
   module _ (i : ℕ) (there : Bool) (k : ℕ) (tests : k ≡ first_of (slot_tests d area i there)) where
-    slot-19 : (k ≡ 19) ↔ (outside 2 8 d.count || leb d.count i ≡ true)
+    slot_19 : (k ≡ 19) ↔ (outside 2 8 d.count || leb d.count i ≡ true)
     unfolding first_of
-    slot-19 =
+    slot_19 =
         let own = exactly 19 [] (desk_test d ∷ area_test d area ∷ (17, not there) ∷ []) (outside 2 8 d.count || leb d.count i) (λ z. omega arith) refl refl in
         (λ e. (own.0 (sym tests ∙ e)).1, λ h. tests ∙ own.1 (refl, h))
 
-    slot-12 : (k ≡ 12) ↔ (Counted d × (i < d.count) × (possible_of d ≡ false))
+    slot_12 : (k ≡ 12) ↔ (Counted d × (i < d.count) × (possible_of d ≡ false))
     unfolding first_of
-    slot-12 =
+    slot_12 =
         let own = exactly 12 (slot_test d i ∷ []) (area_test d area ∷ (17, not there) ∷ []) (not (possible_of d)) (λ z. omega arith) refl refl in
         let before = none_more 18 (outside 2 8 d.count || leb d.count i) [] in (
           λ e. let h = own.0 (sym tests ∙ e) in
@@ -155,9 +155,9 @@ module _ (d : Desk) (area : ℕ) where
           λ h. tests ∙ own.1 (before.1 ((below_when d i).1 (h.0, h.1), refl), ap not h.2),
         )
 
-    slot-2 : (k ≡ 2) ↔ (Counted d × (i < d.count) × (possible_of d ≡ true) × (area < d.count * line_bytes))
+    slot_2 : (k ≡ 2) ↔ (Counted d × (i < d.count) × (possible_of d ≡ true) × (area < d.count * line_bytes))
     unfolding first_of
-    slot-2 =
+    slot_2 =
         let own = exactly 2 (slot_test d i ∷ desk_test d ∷ []) ((17, not there) ∷ []) (ltb area (d.count * line_bytes)) (λ z. omega arith) refl refl in
         let a = none_more 18 (outside 2 8 d.count || leb d.count i) (desk_test d ∷ []) in
         let b = none_more 11 (not (possible_of d)) [] in (
@@ -168,9 +168,9 @@ module _ (d : Desk) (area : ℕ) where
           λ h. tests ∙ own.1 (a.1 ((below_when d i).1 (h.0, h.1), b.1 (ap not h.2, refl)), lt-ltb _ _ h.3),
         )
 
-    slot-17 : (k ≡ 17) ↔ (Sound d area × (i < d.count) × (there ≡ false))
+    slot_17 : (k ≡ 17) ↔ (Sound d area × (i < d.count) × (there ≡ false))
     unfolding first_of
-    slot-17 =
+    slot_17 =
         let own = exactly 17 (slot_test d i ∷ desk_test d ∷ area_test d area ∷ []) [] (not there) (λ z. omega arith) refl refl in
         let a = none_more 18 (outside 2 8 d.count || leb d.count i) (desk_test d ∷ area_test d area ∷ []) in
         let b = none_more 11 (not (possible_of d)) (area_test d area ∷ []) in
@@ -187,13 +187,13 @@ module _ (d : Desk) (area : ℕ) where
 
     -- each of them
     pub record Refusing : Type 0 where
-      pub is-19 : (k ≡ 19) ↔ (outside 2 8 d.count || leb d.count i ≡ true)
-      pub is-12 : (k ≡ 12) ↔ (Counted d × (i < d.count) × (possible_of d ≡ false))
-      pub is-2 : (k ≡ 2) ↔ (Counted d × (i < d.count) × (possible_of d ≡ true) × (area < d.count * line_bytes))
-      pub is-17 : (k ≡ 17) ↔ (Sound d area × (i < d.count) × (there ≡ false))
+      pub is_19 : (k ≡ 19) ↔ (outside 2 8 d.count || leb d.count i ≡ true)
+      pub is_12 : (k ≡ 12) ↔ (Counted d × (i < d.count) × (possible_of d ≡ false))
+      pub is_2 : (k ≡ 2) ↔ (Counted d × (i < d.count) × (possible_of d ≡ true) × (area < d.count * line_bytes))
+      pub is_17 : (k ≡ 17) ↔ (Sound d area × (i < d.count) × (there ≡ false))
 
     refusing : Refusing
-    refusing = record { is-19 = slot-19; is-12 = slot-12; is-2 = slot-2; is-17 = slot-17 }
+    refusing = record { is_19 = slot_19; is_12 = slot_12; is_2 = slot_2; is_17 = slot_17 }
 
 pub publish_refusing : (d : Desk) (area i n : ℕ) → Refusing d area i (filling_as n (slot_of d i)) (publish_refusal d area i n) (publish_tests d area i n)
 publish_refusing d area i n = refusing d area i (filling_as n (slot_of d i)) (publish_refusal d area i n) (publish_tests d area i n)
@@ -203,13 +203,13 @@ release_refusing d area c i n = refusing d area i (held_by c n (slot_of d i)) (r
 
 -- FROM AN EMPTY DESK 12 NEVER COMES, whatever is asked
 pub record Never12 (d : Desk) : Type 0 where
-  pub of-take : (area : ℕ) → take_refusal d area ≡ 12 → ⊥
-  pub of-publish : (area i n : ℕ) → publish_refusal d area i n ≡ 12 → ⊥
-  pub of-release : (area c i n : ℕ) → release_refusal d area c i n ≡ 12 → ⊥
+  pub of_take : (area : ℕ) → take_refusal d area ≡ 12 → ⊥
+  pub of_publish : (area i n : ℕ) → publish_refusal d area i n ≡ 12 → ⊥
+  pub of_release : (area c i n : ℕ) → release_refusal d area c i n ≡ 12 → ⊥
 
 pub never_12 : {count : ℕ} {d : Desk} {log : List Done} → History count d log → Never12 d
 never_12 {d = d} h = record {
-  of-take = λ area e. true≢false (sym (always_possible h) ∙ ((take-12 d area).0 e).1);
-  of-publish = λ area i n e. true≢false (sym (always_possible h) ∙ ((publish_refusing d area i n).is-12.0 e).2);
-  of-release = λ area c i n e. true≢false (sym (always_possible h) ∙ ((release_refusing d area c i n).is-12.0 e).2);
+  of_take = λ area e. true≢false (sym (always_possible h) ∙ ((take_12 d area).0 e).1);
+  of_publish = λ area i n e. true≢false (sym (always_possible h) ∙ ((publish_refusing d area i n).is_12.0 e).2);
+  of_release = λ area c i n e. true≢false (sym (always_possible h) ∙ ((release_refusing d area c i n).is_12.0 e).2);
 }

@@ -120,8 +120,8 @@ busy_above n (Held m p q) l = ne_eqb m n (λ z. omega arith)
 
 -- under the same serial number, or free
 module _ (u v : ℕ → Use) (last k i : ℕ) (p : Possible u last k 0) (others : (j : ℕ) → (j ≡ i → ⊥) → v j ≡ u j) where
-  other-use : sound_use last (v i) ≡ true → (v i ≡ Free) ⊎ ((is_free (u i) ≡ false) × (is_free (v i) ≡ false) × (serial_of (v i) ≡ serial_of (u i))) → Possible v last k 0
-  other-use s w = record { sound = λ j l m. sound (eqb j i) refl l m; apart = λ j m l h g f. apart (eqb j i) refl (eqb m i) refl w l h g f }
+  other_use : sound_use last (v i) ≡ true → (v i ≡ Free) ⊎ ((is_free (u i) ≡ false) × (is_free (v i) ≡ false) × (serial_of (v i) ≡ serial_of (u i))) → Possible v last k 0
+  other_use s w = record { sound = λ j l m. sound (eqb j i) refl l m; apart = λ j m l h g f. apart (eqb j i) refl (eqb m i) refl w l h g f }
     where
       sound : {j : ℕ} (t : Bool) → eqb j i ≡ t → 0 ≤ j → j < 0 + k → sound_use last (v j) ≡ true
       sound {j} true e l m = rw (eqb-true j i e) s
@@ -146,8 +146,8 @@ module _ (u v : ℕ → Use) (last k i : ℕ) (p : Possible u last k 0) (others 
           rw (o, others m (eqb-false m i f)) (p.apart j m l h g (rw (sym o) b))
 
   -- under a new serial number
-  new-use : v i ≡ Filling (suc last) → Possible v (suc last) k 0
-  new-use w = record { sound = λ j l m. sound (eqb j i) refl l m; apart = λ j m l h g f. apart (eqb j i) refl (eqb m i) refl l h g f }
+  new_use : v i ≡ Filling (suc last) → Possible v (suc last) k 0
+  new_use w = record { sound = λ j l m. sound (eqb j i) refl l m; apart = λ j m l h g f. apart (eqb j i) refl (eqb m i) refl l h g f }
     where
       sound : {j : ℕ} (t : Bool) → eqb j i ≡ t → 0 ≤ j → j < 0 + k → sound_use (suc last) (v j) ≡ true
       sound {j} true e l m = rw (eqb-true j i e, w, lt-ltb 0 (suc last) (omega arith), le-leb (suc last) (suc last) (omega arith)) refl
@@ -171,7 +171,7 @@ module _ (u v : ℕ → Use) (last k i : ℕ) (p : Possible u last k 0) (others 
 pub take_possible : (d : Desk) (area : ℕ) → length d.slots ≡ 8 → TakeServed d area → possible_of (taken_desk d) ≡ true
 take_possible d area l s =
     possible_made (slot_of (taken_desk d)) (suc d.last) d.count 0
-    (new-use (slot_of d) (slot_of (taken_desk d)) d.last d.count (lowest_of d) (possible_means (slot_of d) d.last d.count 0 s.sound)
+    (new_use (slot_of d) (slot_of (taken_desk d)) d.last d.count (lowest_of d) (possible_means (slot_of d) d.last d.count 0 s.sound)
     (λ j h. slot_other d (lowest_of d) j (Filling (suc d.last)) h)
     (slot_same d (lowest_of d) (Filling (suc d.last)) (omega (arith, s.slot, s.counts.most))))
 
@@ -182,7 +182,7 @@ publish_possible d area i n l s f =
     let now = slot_same d i (Held n true true) (omega (arith, s.below, s.counts.most)) in
     let g : sound_use d.last (Filling n) ≡ true = rw f at (p.sound i (omega arith) (omega (arith, s.below))) in
     possible_made (slot_of (with_slot d i (Held n true true))) d.last d.count 0
-    (other-use (slot_of d) (slot_of (with_slot d i (Held n true true))) d.last d.count i p
+    (other_use (slot_of d) (slot_of (with_slot d i (Held n true true))) d.last d.count i p
     (λ j h. slot_other d i j (Held n true true) h) (rw (now, g) refl) (inr (rw f refl, rw now refl, rw (now, f) refl)))
 
 held_kept : (last n : ℕ) (p q : Bool) → (ltb 0 n && leb n last) ≡ true → sound_use last (held_or n p q) ≡ true
@@ -214,7 +214,7 @@ release_possible d area c i n l s f =
         let w : slot_of after i ≡ held_or m (x && not (eqb c 1)) (y && not (eqb c 2)) = now ∙ ap (let_go c) e in
         let k : sound_use d.last (Held m x y) ≡ true = rw e at g in
         possible_made (slot_of after) d.last d.count 0
-        (other-use (slot_of d) (slot_of after) d.last d.count i p (λ j h. slot_other d i j (let_go c (slot_of d i)) h)
+        (other_use (slot_of d) (slot_of after) d.last d.count i p (λ j h. slot_other d i j (let_go c (slot_of d i)) h)
         (rw w (held_kept d.last m (x && not (eqb c 1)) (y && not (eqb c 2)) (and_both (ltb 0 m && leb m d.last) (x || y) k).0))
         (left m (x && not (eqb c 1)) (y && not (eqb c 2)) (rw e refl) (rw e refl) w))
 

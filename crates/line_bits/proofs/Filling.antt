@@ -17,12 +17,12 @@ use Rattle.reader_bits.specs.Call.{bit_of, more}
 use Rattle.reader_bits.specs.Loops.{going}
 use Rattle.line_bytes.specs.Spans.{FillIn, SpanOk}
 use Rattle.line_bytes.specs.declared.Span.{Span}
-use Rattle.line_bytes.proofs.LineBits.{line-wait, line_store, line-last}
+use Rattle.line_bytes.proofs.LineBits.{line_wait, line_store, line_last}
 use Rattle.line_bits.specs.Reading.{FilledOk}
 use Rattle.reader_bits.specs.Phase.{within}
 use Rattle.line_bits.specs.declared.Filled.TheVariants.{Whole, Part}
 use Rattle.reader_bits.proofs.Masks.{bit_and_is}
-use Rattle.reader_bits.proofs.Going.{going-byte, going_end}
+use Rattle.reader_bits.proofs.Going.{going_byte, going_end}
 
 -- the call that was begun is the call that is on its way
 pub record Fills (p : List ℕ) (t0 n0 v0 place0 r0 q0 : ℕ) (buf0 : List ℕ) (t n v place r q : ℕ) (buf : List ℕ) : Type 0 where
@@ -46,9 +46,9 @@ module _ {p : List ℕ} {t0 n0 v0 place0 r0 q0 : ℕ} {buf0 : List ℕ} {t n v p
   bit-of setting h = let e : n ≡ suc (n - 1) = omega arith in f.same setting ∙ ap (λ (k : ℕ). going setting p t (within place r q) buf k v) e
 
   -- the bit waits for its byte
-  pub fills-wait : (x r' : ℕ) → x ≡ plain_bit place r (bit_of (n - 1) v) → r' ≡ next_register r → zero < n → (place % 8 ≡ 7 → ⊥)
+  pub fills_wait : (x r' : ℕ) → x ≡ plain_bit place r (bit_of (n - 1) v) → r' ≡ next_register r → zero < n → (place % 8 ≡ 7 → ⊥)
       → Fills p t0 n0 v0 place0 r0 q0 buf0 t (n - 1) v (place + 1) r' (q * 2 + x) buf
-  fills-wait x r' e g h k =
+  fills_wait x r' e g h k =
       let d : place % 8 < 7 = omega (arith, mod-lt place (zero-lt-suc 7)) in
       let z : (place + 1) % 8 ≡ place % 8 + 1 = omega arith in
       let o = f.ok in
@@ -62,13 +62,13 @@ module _ {p : List ℕ} {t0 n0 v0 place0 r0 q0 : ℕ} {buf0 : List ℕ} {t n v p
           room = o.room;
         };
         long = f.long;
-        same = λ setting. rw (e, g, add-one) (bit-of setting h ∙ line-wait setting p t buf place r q (n - 1) v d o.inside);
+        same = λ setting. rw (e, g, add-one) (bit-of setting h ∙ line_wait setting p t buf place r q (n - 1) v d o.inside);
       }
 
   -- the byte's eighth bit: it is stored
-  pub fills-store : (x r' : ℕ) → x ≡ plain_bit place r (bit_of (n - 1) v) → r' ≡ next_register r → zero < n → place % 8 ≡ 7 → (place ≡ 354847 → ⊥)
+  pub fills_store : (x r' : ℕ) → x ≡ plain_bit place r (bit_of (n - 1) v) → r' ≡ next_register r → zero < n → place % 8 ≡ 7 → (place ≡ 354847 → ⊥)
       → Fills p t0 n0 v0 place0 r0 q0 buf0 t (n - 1) v (place + 1) r' 0 (set buf (place / 8) (q * 2 + x))
-  fills-store x r' e g h k m =
+  fills_store x r' e g h k m =
       let o = f.ok in
       record {
         ok = record {
@@ -84,24 +84,24 @@ module _ {p : List ℕ} {t0 n0 v0 place0 r0 q0 : ℕ} {buf0 : List ℕ} {t n v p
       }
 
   -- the line's last bit
-  pub fills-whole : (x v' : ℕ) → x ≡ plain_bit place r (bit_of (n - 1) v) → v' ≡ v % 2 ^ (n - 1) → zero < n → place ≡ 354847
+  pub fills_whole : (x v' : ℕ) → x ≡ plain_bit place r (bit_of (n - 1) v) → v' ≡ v % 2 ^ (n - 1) → zero < n → place ≡ 354847
       → FilledOk p t0 n0 v0 place0 r0 q0 buf0 (set buf (place / 8) (q * 2 + x)) (Whole t (n - 1) v')
-  fills-whole x v' e g h m = record { same = λ setting. rw (e, g) (bit-of setting h ∙ line-last setting p t buf place r q (n - 1) v m) }
+  fills_whole x v' e g h m = record { same = λ setting. rw (e, g) (bit-of setting h ∙ line_last setting p t buf place r q (n - 1) v m) }
 
-  pub fills-byte : n ≡ 0 → t < length p → Fills p t0 n0 v0 place0 r0 q0 buf0 (t + 1) 8 (get_or p t 0) place r q buf
-  fills-byte z h =
+  pub fills_byte : n ≡ 0 → t < length p → Fills p t0 n0 v0 place0 r0 q0 buf0 (t + 1) 8 (get_or p t 0) place r q buf
+  fills_byte z h =
       let o = f.ok in
       record {
         ok = record { taken = omega arith; left = le_refl 8; inside = o.inside; fifteen = o.fifteen; small = o.small; room = o.room };
         long = f.long;
         same = λ setting. f.same setting
             ∙ ap (λ (k : ℕ). going setting p t (within place r q) buf k v) z
-            ∙ going-byte setting p t buf (within place r q) v h
+            ∙ going_byte setting p t buf (within place r q) v h
             ∙ ap (λ (k : ℕ). going setting p k (within place r q) buf 8 (get_or p t 0)) (sym (add-one t));
       }
 
-  pub fills-end : n ≡ 0 → t ≡ length p → FilledOk p t0 n0 v0 place0 r0 q0 buf0 buf (Part place r q)
-  fills-end z h = record {
+  pub fills_end : n ≡ 0 → t ≡ length p → FilledOk p t0 n0 v0 place0 r0 q0 buf0 buf (Part place r q)
+  fills_end z h = record {
     same = λ setting. f.same setting
         ∙ ap (λ (k : ℕ). going setting p t (within place r q) buf k v) z
         ∙ going_end setting p t buf (within place r q) v (omega arith)

@@ -17,9 +17,9 @@ use Rattle.wire.proofs.Wire.{wire_append}
 use Rattle.reader_bits.specs.Call.{bit_of}
 use Rattle.reader_bits.specs.Loops.{going}
 use Rattle.reader_bits.specs.Phase.{within}
-use Rattle.reader_bits.proofs.Going.{going-byte}
+use Rattle.reader_bits.proofs.Going.{going_byte}
 use Rattle.line_bytes.specs.Spans.{across}
-use Rattle.line_bytes.proofs.LineBits.{line-wait, line_store}
+use Rattle.line_bytes.proofs.LineBits.{line_wait, line_store}
 
 -- the first of some bits on the wire
 wire_first : (i r b : ℕ) (bs : List ℕ) → wire_of i r (b ∷ bs) ≡ plain_bit i r b ∷ wire_of (suc i) (next_register r) bs
@@ -69,7 +69,7 @@ module _ (setting : ℕ) (p : List ℕ) (t : ℕ) (buf : List ℕ) (v : ℕ) whe
   waits (suc j) n place r q h k =
       let e : suc place + j ≡ place + suc j = omega arith in
       ap (λ (m : ℕ). going setting p t (within place r q) buf m v) (suc-add j n)
-      ∙ line-wait setting p t buf place r q (j + n) v (omega arith) k
+      ∙ line_wait setting p t buf place r q (j + n) v (omega arith) k
       ∙ waits j n (suc place) (next_register r) (q * 2 + plain_bit place r (bit_of (j + n) v)) (omega arith) (omega arith)
       ∙ ap₂ (λ (a b : ℕ). going setting p t (within a (register_after j (next_register r)) b) buf n v) e (sym (waited_next place r q j n v))
 
@@ -88,7 +88,7 @@ module _ (setting : ℕ) (p : List ℕ) (t : ℕ) (buf : List ℕ) (v : ℕ) whe
       let f : suc place / 8 ≡ place / 8 = omega arith in
       let x : ℕ = q * 2 + plain_bit place r (bit_of (suc j + n) v) in
       ap (λ (m : ℕ). going setting p t (within place r q) buf m v) (suc-add (suc j) n)
-      ∙ line-wait setting p t buf place r q (suc j + n) v (omega arith) (omega arith)
+      ∙ line_wait setting p t buf place r q (suc j + n) v (omega arith) (omega arith)
       ∙ stores j n (suc place) (next_register r) x (omega arith) (omega arith)
       ∙ ap (λ (a : ℕ). going setting p t (within a (register_after (suc j) (next_register r)) 0) (set buf (suc place / 8) (waited (suc place) (next_register r) x (digits (suc j) (v / 2 ^ n)))) n v) e
       ∙ ap₂ (λ (a b : ℕ). going setting p t (within (place + suc (suc j)) (register_after (suc j) (next_register r)) 0) (set buf a b) n v) f (sym (waited_next place r q (suc j) n v))
@@ -126,8 +126,8 @@ module _ (setting : ℕ) (p : List ℕ) (t : ℕ) (buf : List ℕ) (place r n v 
   value = ap number_of (sym plain) ∙ number_digits 8 w ∙ mod-eq_of_lt small
 
   -- EIGHT BITS A STEP
-  pub line-byte : n ≤ 7 → going setting p t (within place r 0) buf n v ≡ going setting p (suc t) (within (place + 8) (register_after 8 r) 0) (set buf (place / 8) w) n (get_or p t 0)
-  line-byte h =
+  pub line_byte : n ≤ 7 → going setting p t (within place r 0) buf n v ≡ going setting p (suc t) (within (place + 8) (register_after 8 r) 0) (set buf (place / 8) w) n (get_or p t 0)
+  line_byte h =
       let y : ℕ = get_or p t 0 in
       let q : ℕ = waited place r 0 (digits n (v / 2 ^ 0)) in
       let all : n + suc (7 - n) ≡ 8 = omega arith in
@@ -141,7 +141,7 @@ module _ (setting : ℕ) (p : List ℕ) (t : ℕ) (buf : List ℕ) (place r n v 
       ∙ value in
       ap (λ (k : ℕ). going setting p t (within place r 0) buf k v) (sym (add-zero n))
       ∙ waits setting p t buf v n 0 place r 0 (omega arith) (omega arith)
-      ∙ going-byte setting p t buf (within (place + n) (register_after n r) q) v inside
+      ∙ going_byte setting p t buf (within (place + n) (register_after n r) q) v inside
       ∙ ap (λ (k : ℕ). going setting p (suc t) (within (place + n) (register_after n r) q) buf k y) rest
       ∙ stores setting p (suc t) buf y (7 - n) n (place + n) (register_after n r) q (omega arith) (omega arith)
       ∙ ap₂ (λ (a b : ℕ). going setting p (suc t) (within a b 0) (set buf ((place + n) / 8) (waited (place + n) (register_after n r) q (digits (suc (7 - n)) (y / 2 ^ n)))) n y) end moved

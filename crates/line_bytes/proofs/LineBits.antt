@@ -9,30 +9,30 @@ use Rattle.scramble.specs.Register.{next_register}
 use Rattle.scramble.specs.Wire.{plain_bit}
 use Rattle.reader_bits.specs.Call.{bit_of, whole}
 use Rattle.reader_bits.specs.Loops.{step_of, done_of, going}
-use Rattle.reader_bits.specs.Phase.{seeking, within, phaseNext, buffer_next, completes}
-use Rattle.reader_bits.proofs.Resume.{resume-bit}
+use Rattle.reader_bits.specs.Phase.{seeking, within, phase_next, buffer_next, completes}
+use Rattle.reader_bits.proofs.Resume.{resume_bit}
 
 module _ (setting : ℕ) (p : List ℕ) (t : ℕ) (buf : List ℕ) (place r q n v : ℕ) where
   abbrev x : ℕ
   x = plain_bit place r (bit_of n v)
 
-  pub line-wait : place % 8 < 7 → place < 354848
+  pub line_wait : place % 8 < 7 → place < 354848
       → going setting p t (within place r q) buf (suc n) v ≡ going setting p t (within (suc place) (next_register r) (q * 2 + x)) buf n v
-  unfolding going completes buffer_next phaseNext
-  line-wait h k =
-      resume-bit (step_of setting) done_of p t (within place r q, buf) n v
+  unfolding going completes buffer_next phase_next
+  line_wait h k =
+      resume_bit (step_of setting) done_of p t (within place r q, buf) n v
       ∙ rw (lt-leb 354848 (suc place) (omega arith), ne_eqb (place % 8) 7 (omega arith))
 
   pub line_store : place % 8 ≡ 7 → suc place < 354848
       → going setting p t (within place r q) buf (suc n) v ≡ going setting p t (within (suc place) (next_register r) 0) (set buf (place / 8) (q * 2 + x)) n v
-  unfolding going completes buffer_next phaseNext
+  unfolding going completes buffer_next phase_next
   line_store h k =
-      resume-bit (step_of setting) done_of p t (within place r q, buf) n v
+      resume_bit (step_of setting) done_of p t (within place r q, buf) n v
       ∙ rw (lt-leb 354848 (suc place) (omega arith), eq-eqb (place % 8) 7 h)
 
-  pub line-last : place ≡ 354847
+  pub line_last : place ≡ 354847
       → going setting p t (within place r q) buf (suc n) v ≡ whole t (seeking 0 0, set buf (place / 8) (q * 2 + x)) n (v % 2 ^ n)
-  unfolding going completes buffer_next phaseNext
-  line-last h =
-      resume-bit (step_of setting) done_of p t (within place r q, buf) n v
+  unfolding going completes buffer_next phase_next
+  line_last h =
+      resume_bit (step_of setting) done_of p t (within place r q, buf) n v
       ∙ rw (le-leb 354848 (suc place) (omega arith), eq-eqb (place % 8) 7 (omega arith))

@@ -16,11 +16,11 @@ use Rattle.scramble.specs.Register.{register_after}
 use Rattle.scramble.specs.Wire.{wire_of}
 use Rattle.wire.proofs.Rule.{after_add, after_lt}
 use Rattle.runs.specs.Mixed.{Mixed}
-use Rattle.runs.proofs.Puts.{mixed-at, mixed-front, mixed-back}
+use Rattle.runs.proofs.Puts.{mixed_at, mixed_front, mixed_back}
 use Rattle.reader_bits.specs.Loops.{going}
 use Rattle.reader_bits.specs.Phase.{within}
 use Rattle.line_bytes.specs.Spans.{FillIn, across, byte_before, Copied, Whole, SpanOk}
-use Rattle.line_bytes.proofs.Eight.{line-byte}
+use Rattle.line_bytes.proofs.Eight.{line_byte}
 
 record Goes (p : List ℕ) (t n v place r : ℕ) (buf : List ℕ) (i v' r' : ℕ) (buf' : List ℕ) : Type 0 where
   pub fifteen : r' < 2 ^ 15
@@ -49,7 +49,7 @@ goes_byte {p} {t} {n} {v} {place} {r} {buf} {i} {v'} {r'} {buf'} w r'' g left in
       long = length-set buf' (place / 8 + i) w ∙ g.long;
       same = λ setting.
           g.same setting
-          ∙ line-byte setting p (t + i) buf' (place + i * 8) r' n v' w inside (omega arith) more byte small plain left
+          ∙ line_byte setting p (t + i) buf' (place + i * 8) r' n v' w inside (omega arith) more byte small plain left
           ∙ ap₂ (λ (a b : ℕ). going setting p a (within (place + i * 8 + 8) b 0) (set buf' ((place + i * 8) / 8) w) n y) further (sym er)
           ∙ ap₂ (λ (a b : ℕ). going setting p (t + (i + 1)) (within a r'' 0) (set buf' b w) n y) next at;
     }
@@ -57,15 +57,15 @@ goes_byte {p} {t} {n} {v} {place} {r} {buf} {i} {v'} {r'} {buf'} w r'' g left in
 module _ (p : List ℕ) (t n v place r : ℕ) (buf ws : List ℕ) (k : ℕ) (left : n ≤ 7) (aligned : place % 8 ≡ 0) (inside : t + k ≤ length p) (more : place + k * 8 < 354848)
     (room : place / 8 + k ≤ length buf) (long : k ≤ length ws) (fifteen : r < 2 ^ 15) (bytes : (i : ℕ) → get_or p i 0 < 2 ^ 8) (small : (i : ℕ) → get_or ws i 0 < 2 ^ 8)
     (plain : (i : ℕ) → i < k → digits 8 (get_or ws i 0) ≡ wire_of (place + i * 8) (register_after (i * 8) r) (digits 8 (across n (byte_before p t v i) (get_or p (t + i) 0)))) where
-  goes-all : (i : ℕ) → i ≤ k → Goes p t n v place r buf i (byte_before p t v i) (register_after (i * 8) r) (paste buf (place / 8) ws i)
+  goes_all : (i : ℕ) → i ≤ k → Goes p t n v place r buf i (byte_before p t v i) (register_after (i * 8) r) (paste buf (place / 8) ws i)
   unfolding byte_before register_after
-  goes-all zero h = rw (← paste-zero buf (place / 8) ws) (goes_none fifteen)
-  goes-all (suc i) h =
+  goes_all zero h = rw (← paste-zero buf (place / 8) ws) (goes_none fifteen)
+  goes_all (suc i) h =
       let one : i + 1 ≡ suc i = add-one i in
       let eight : suc i * 8 ≡ i * 8 + 8 = omega arith in
       let next : register_after (suc i * 8) r ≡ register_after 8 (register_after (i * 8) r) = ap (λ (m : ℕ). register_after m r) eight ∙ after_add (i * 8) 8 r in
       let turn : set (paste buf (place / 8) ws i) (place / 8 + i) (get_or ws i 0) ≡ paste buf (place / 8) ws (i + 1) = paste_turn buf (place / 8) ws i (get_or ws i 0) (omega arith) (omega arith) refl in
-      let step = goes_byte (get_or ws i 0) (register_after (suc i * 8) r) (goes-all i (omega arith)) left (omega arith) aligned (omega arith) (bytes (t + i)) (small i) (plain i h) next in
+      let step = goes_byte (get_or ws i 0) (register_after (suc i * 8) r) (goes_all i (omega arith)) left (omega arith) aligned (omega arith) (bytes (t + i)) (small i) (plain i h) next in
       rw (turn, one) at step
 
 pub span_none : {p : List ℕ} {t n v place r : ℕ} {buf : List ℕ} → FillIn p t n place r 0 buf
@@ -108,15 +108,15 @@ span_mixed {p} {t} {n} {v} {place} {r} {buf} {buf₁} {buf₂} {k} {b} {r'} o so
     let ws : List ℕ = drop q buf₂ in
     let at : (i : ℕ) → get_or ws i 0 ≡ get_or buf₂ (q + i) 0 = λ i. get_or-drop q buf₂ i 0 in
     let plain : (i : ℕ) → i < k → digits 8 (get_or ws i 0) ≡ wire_of (place + i * 8) (register_after (i * 8) r) (digits 8 (across n (byte_before p t v i) (get_or p (t + i) 0))) =
-    λ i h. ap (digits 8) (at i) ∙ mixed-at buf₁ buf₂ q k place r fits l₂ m.put i h ∙ ap (λ (x : ℕ). wire_of (place + i * 8) (register_after (i * 8) r) (digits 8 x)) (c.each i h) in
+    λ i h. ap (digits 8) (at i) ∙ mixed_at buf₁ buf₂ q k place r fits l₂ m.put i h ∙ ap (λ (x : ℕ). wire_of (place + i * 8) (register_after (i * 8) r) (digits 8 x)) (c.each i h) in
     let bytes : (i : ℕ) → get_or p i 0 < 2 ^ 8 = below_at 256 p (lit≤ tt) bp in
     let small : (i : ℕ) → get_or ws i 0 < 2 ^ 8 = λ i. rw (at i) (below_at 256 buf₂ (lit≤ tt) b₂ (q + i)) in
     let long : k ≤ length ws = rw (length-drop q buf₂) (omega arith) in
     let all : paste buf q ws k ≡ buf₂ =
-    ap₂ (λ (x y : List ℕ). x ++ take k ws ++ y) (sym (mixed-front buf₁ buf₂ q k place r fits l₂ m.put b₁ b₂ ∙ c.front)) (sym (mixed-back buf₁ buf₂ q k place r fits l₂ m.put b₁ b₂ ∙ c.back))
+    ap₂ (λ (x y : List ℕ). x ++ take k ws ++ y) (sym (mixed_front buf₁ buf₂ q k place r fits l₂ m.put b₁ b₂ ∙ c.front)) (sym (mixed_back buf₁ buf₂ q k place r fits l₂ m.put b₁ b₂ ∙ c.back))
     ∙ ap (λ (x : List ℕ). x ++ drop (q + k) buf₂) (sym (take-add q k buf₂))
     ∙ take-append-drop (q + k) buf₂ in
-    let goes = goes-all p t n v place r buf ws k (w.left some) aligned inside more (omega (arith, o.room)) long o.fifteen bytes small plain k (le_refl k) in
+    let goes = goes_all p t n v place r buf ws k (w.left some) aligned inside more (omega (arith, o.room)) long o.fifteen bytes small plain k (le_refl k) in
     span_done o (rw (all, ← last_read p t v k b some eb, ← m.after) at goes) inside aligned more
 
 -- ---- how many can go at once

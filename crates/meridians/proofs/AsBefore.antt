@@ -17,7 +17,7 @@ use Rattle.entries.proofs.Known.{in_grid}
 use Rattle.meridians.specs.Meridians.{SameMeridian}
 use Rattle.meridians.specs.Before.{earlier_grid_at, earlier_answer}
 use Rattle.meridians.proofs.Columns.{other_formats}
-use Rattle.meridians.proofs.Points.{unrefused, point-congruent}
+use Rattle.meridians.proofs.Points.{unrefused, point_congruent}
 
 -- all but the longitude
 pub record AsBefore (a b : Mapped) : Type 0 where
@@ -42,9 +42,9 @@ module _ (f : ℕ) (m : Marks) (block : List ℕ) (i j : ℕ) where
   as_before = refused_alike AsBefore (λ k. record { number = refl; line = refl; pixel = refl; latitude = refl }) (λ e. record { number = refl; line = refl; pixel = refl; latitude = refl })
 
   -- in every format but 2 the whole answer
-  pub wholly-as-before : (f ≡ 2 → ⊥) → mapping_answer f m block i j ≡ earlier_answer f m block i j
+  pub wholly_as_before : (f ≡ 2 → ⊥) → mapping_answer f m block i j ≡ earlier_answer f m block i j
   unfolding grid_at earlier_grid_at
-  wholly-as-before other = refused_alike ◌≡◌ (λ k. refl) (λ e. ap point (other_formats f j other (in_grid f m i j (length block) e).column))
+  wholly_as_before other = refused_alike ◌≡◌ (λ k. refl) (λ e. ap point (other_formats f j other (in_grid f m i j (length block) e).column))
     where
       point : ℤ → Mapped
       point z = mapped.Is (record { line = (grid_at f block i j).line; pixel = (grid_at f block i j).pixel; latitude = latitude_of i; longitude = z })
@@ -56,4 +56,4 @@ unfolding earlier_answer earlier_grid_at grid_refusal answered first_longitude
 hirid_35 m block i j served =
     let was : (mapped_point (earlier_answer 2 m block i j)).longitude ≡ pos (45 + 5 * j) = ap (λ (k : ℕ). (mapped_point (answered mapped.Refused k (mapped.Is (earlier_grid_at block i j)))).longitude) (unrefused 2 m block i j served) in
     let on : pos (80 + 5 * j) ≡ (mapped_point (earlier_answer 2 m block i j)).longitude +ℤ pos 35 = ap pos (omega arith) ∙ ap (λ (z : ℤ). z +ℤ pos 35) (sym was) in
-    subst (SameMeridian (mapped_point (mapping_answer 2 m block i j)).longitude) on (point-congruent 2 m block i j served)
+    subst (SameMeridian (mapped_point (mapping_answer 2 m block i j)).longitude) on (point_congruent 2 m block i j served)

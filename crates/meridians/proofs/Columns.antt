@@ -52,14 +52,14 @@ last_hirid = refl
 -- ---- in every format, of every column: from the first longitude on, five degrees each
 
 module _ (f j : ℕ) (h : j ≤ 24) where
-  pub column-within : Longitude (longitude_of f j)
-  column-within = within (first_longitude f + 5 * j) (omega (arith, first_most f))
+  pub column_within : Longitude (longitude_of f j)
+  column_within = within (first_longitude f + 5 * j) (omega (arith, first_most f))
 
-  pub column-congruent : SameMeridian (longitude_of f j) (pos (first_longitude f + 5 * j))
-  column-congruent = congruent (first_longitude f + 5 * j)
+  pub column_congruent : SameMeridian (longitude_of f j) (pos (first_longitude f + 5 * j))
+  column_congruent = congruent (first_longitude f + 5 * j)
 
-  pub column-only : (z : ℤ) → Longitude z → SameMeridian z (pos (first_longitude f + 5 * j)) → z ≡ longitude_of f j
-  column-only z = the_one (first_longitude f + 5 * j) z (omega (arith, first_most f))
+  pub column_only : (z : ℤ) → Longitude z → SameMeridian z (pos (first_longitude f + 5 * j)) → z ≡ longitude_of f j
+  column_only z = the_one (first_longitude f + 5 * j) z (omega (arith, first_most f))
 
 -- every format but 2 has 45 degrees east and five for each column, as document 01 has it
 pub other_formats : (f j : ℕ) → (f ≡ 2 → ⊥) → j ≤ 24 → longitude_of f j ≡ pos (45 + 5 * j)

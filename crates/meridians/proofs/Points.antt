@@ -15,7 +15,7 @@ use Rattle.grid_points.specs.Points.{grid_at}
 use Rattle.entries.proofs.Known.{in_grid}
 use Rattle.entries.proofs.Settled.{points}
 use Rattle.meridians.specs.Meridians.{SameMeridian, Longitude, columns_of}
-use Rattle.meridians.proofs.Columns.{column, column-within, column-congruent, columns_differ, rows_differ}
+use Rattle.meridians.proofs.Columns.{column, column_within, column_congruent, columns_differ, rows_differ}
 
 module _ (f : ℕ) (m : Marks) (block : List ℕ) (i j : ℕ) (served : mapped_number (mapping_answer f m block i j) ≡ 0) where
   said : MappingOk f m block i j (mapping_answer f m block i j)
@@ -26,27 +26,27 @@ module _ (f : ℕ) (m : Marks) (block : List ℕ) (i j : ℕ) (served : mapped_n
   unrefused = sym said.0 ∙ served
 
   -- the answer is the point of the block
-  pub point-is : mapped_point (mapping_answer f m block i j) ≡ grid_at f block i j
-  point-is = said.1 ∙ kept_none (mapping_refusal f m i j (length block)) no_point (grid_at f block i j) unrefused
+  pub point_is : mapped_point (mapping_answer f m block i j) ≡ grid_at f block i j
+  point_is = said.1 ∙ kept_none (mapping_refusal f m i j (length block)) no_point (grid_at f block i j) unrefused
 
-  latitude-is : (mapped_point (mapping_answer f m block i j)).latitude ≡ latitude_of i
+  latitude_is : (mapped_point (mapping_answer f m block i j)).latitude ≡ latitude_of i
   unfolding grid_at
-  latitude-is = ap (λ (g : Grid). g.latitude) point-is
+  latitude_is = ap (λ (g : Grid). g.latitude) point_is
 
-  longitude-is : (mapped_point (mapping_answer f m block i j)).longitude ≡ longitude_of f j
+  longitude_is : (mapped_point (mapping_answer f m block i j)).longitude ≡ longitude_of f j
   unfolding grid_at
-  longitude-is = ap (λ (g : Grid). g.longitude) point-is
+  longitude_is = ap (λ (g : Grid). g.longitude) point_is
 
   -- THE COLUMN OF THE SOURCES
-  pub point-column : (mapped_point (mapping_answer f m block i j)).longitude ≡ get_or (columns_of f) j (pos 0)
-  point-column = longitude-is ∙ column f j (in_grid f m i j (length block) unrefused).column
+  pub point_column : (mapped_point (mapping_answer f m block i j)).longitude ≡ get_or (columns_of f) j (pos 0)
+  point_column = longitude_is ∙ column f j (in_grid f m i j (length block) unrefused).column
 
   -- above 180 west, at most at 180 east, and on the meridian of the first longitude and five degrees for each column
-  pub point-within : Longitude (mapped_point (mapping_answer f m block i j)).longitude
-  point-within = subst Longitude (sym longitude-is) (column-within f j (in_grid f m i j (length block) unrefused).column)
+  pub point_within : Longitude (mapped_point (mapping_answer f m block i j)).longitude
+  point_within = subst Longitude (sym longitude_is) (column_within f j (in_grid f m i j (length block) unrefused).column)
 
-  pub point-congruent : SameMeridian (mapped_point (mapping_answer f m block i j)).longitude (pos (first_longitude f + 5 * j))
-  point-congruent = subst (λ (z : ℤ). SameMeridian z (pos (first_longitude f + 5 * j))) (sym longitude-is) (column-congruent f j (in_grid f m i j (length block) unrefused).column)
+  pub point_congruent : SameMeridian (mapped_point (mapping_answer f m block i j)).longitude (pos (first_longitude f + 5 * j))
+  point_congruent = subst (λ (z : ℤ). SameMeridian z (pos (first_longitude f + 5 * j))) (sym longitude_is) (column_congruent f j (in_grid f m i j (length block) unrefused).column)
 
 -- NO TWO POINTS OF A GRID ARE THE SAME PLACE
 pub points_differ : (f : ℕ) (m : Marks) (block : List ℕ) (i j k l : ℕ)
@@ -55,6 +55,6 @@ pub points_differ : (f : ℕ) (m : Marks) (block : List ℕ) (i j k l : ℕ)
     → (mapped_point (mapping_answer f m block i j)).longitude ≡ (mapped_point (mapping_answer f m block k l)).longitude
     → (i ≡ k) × (j ≡ l)
 points_differ f m block i j k l one other latitudes longitudes = (
-  rows_differ i k (sym (latitude-is f m block i j one) ∙ latitudes ∙ latitude-is f m block k l other),
-  columns_differ f j l (in_grid f m i j (length block) (unrefused f m block i j one)).column (in_grid f m k l (length block) (unrefused f m block k l other)).column (sym (longitude-is f m block i j one) ∙ longitudes ∙ longitude-is f m block k l other),
+  rows_differ i k (sym (latitude_is f m block i j one) ∙ latitudes ∙ latitude_is f m block k l other),
+  columns_differ f j l (in_grid f m i j (length block) (unrefused f m block i j one)).column (in_grid f m k l (length block) (unrefused f m block k l other)).column (sym (longitude_is f m block i j one) ∙ longitudes ∙ longitude_is f m block k l other),
 )

@@ -10,10 +10,10 @@ use Rattle.number_writer.specs.Written.{put_number, put_real_refusal, put_real_a
 -- it has no value
 writes : Kind Refused (λ (v : Unit {0}). Done) put_number (λ (r : Put). tt) tt
 writes = record {
-  number-refused = λ n. refl;
-  number-given = λ v. refl;
-  value-refused = λ n. refl;
-  value-given = λ v. refl;
+  number_refused = λ n. refl;
+  number_given = λ v. refl;
+  value_refused = λ n. refl;
+  value_given = λ v. refl;
   apart = λ v e. let z : ◌≡◌ {A = ℕ} 0 1 = cc in let w : ⊥ = omega arith in w;
   either = each;
 }

@@ -22,7 +22,7 @@ use Rattle.numbers.specs.declared.Real.TheVariants as real
 use Rattle.numbers.specs.Integers.{read_integer_refusal, read_integer_answer}
 use Rattle.numbers.specs.Decimals.{some_over9, decimal_of, digits_in, read_bcd_refusal, read_bcd_answer}
 use Rattle.numbers.specs.Reals.{no_real, magnitude_bits, form_refusal, real_in, read_real_refusal, read_real_answer}
-use Rattle.refusals.proofs.Given.{answered-first, unrefused}
+use Rattle.refusals.proofs.Given.{answered_first, unrefused}
 use Rattle.numbers.proofs.Ranges.{formed}
 use Rattle.numbers.proofs.Nines.{over_none}
 
@@ -50,7 +50,7 @@ integer_lt n bytes v b e =
 pub bcd_answer : (n : ℕ) (bytes : List ℕ)
     → read_bcd_answer n bytes ≡ answered bcd.Refused (first (outside_of 1 6 n 10) (short_of (length bytes) n 2)) (decimal_of (digits_in n bytes))
 unfolding read_bcd_answer read_bcd_refusal decimal_of
-bcd_answer n bytes = answered-first bcd.Refused (outside_of 1 6 n 10) (short_of (length bytes) n 2) (when (some_over9 (digits_in n bytes)) 7) (bcd.Is (in_base 10 (digits_in n bytes)))
+bcd_answer n bytes = answered_first bcd.Refused (outside_of 1 6 n 10) (short_of (length bytes) n 2) (when (some_over9 (digits_in n bytes)) 7) (bcd.Is (in_base 10 (digits_in n bytes)))
 
 pub bcd_if : (n : ℕ) (bytes : List ℕ) → outside 1 6 n ≡ false → n ≤ length bytes → read_bcd_answer n bytes ≡ decimal_of (digits_in n bytes)
 unfolding first when short_of outside_of answered

@@ -19,10 +19,10 @@ use Rattle.numbers.specs.Reals.{zero_real, real_number, real_value, read_real_an
 
 pub integers : Kind integer.Refused integer.Is integer_number integer_value 0
 integers = record {
-  number-refused = λ n. refl;
-  number-given = λ v. refl;
-  value-refused = λ n. refl;
-  value-given = λ v. refl;
+  number_refused = λ n. refl;
+  number_given = λ v. refl;
+  value_refused = λ n. refl;
+  value_given = λ v. refl;
   apart = λ v e. let z : ◌≡◌ {A = ℕ} 0 1 = cc in let w : ⊥ = omega arith in w;
   either = each;
 }
@@ -39,10 +39,10 @@ read_integer_is n bytes r = says_is integers _ _ r
 
 pub decimals : Kind bcd.Refused bcd.Is bcd_number bcd_value 0
 decimals = record {
-  number-refused = λ n. refl;
-  number-given = λ v. refl;
-  value-refused = λ n. refl;
-  value-given = λ v. refl;
+  number_refused = λ n. refl;
+  number_given = λ v. refl;
+  value_refused = λ n. refl;
+  value_given = λ v. refl;
   apart = λ v e. let z : ◌≡◌ {A = ℕ} 0 1 = cc in let w : ⊥ = omega arith in w;
   either = each;
 }
@@ -59,10 +59,10 @@ read_bcd_is n bytes r = says_is decimals _ _ r
 
 pub reals : Kind real.Refused real.Is real_number real_value zero_real
 reals = record {
-  number-refused = λ n. refl;
-  number-given = λ v. refl;
-  value-refused = λ n. refl;
-  value-given = λ v. refl;
+  number_refused = λ n. refl;
+  number_given = λ v. refl;
+  value_refused = λ n. refl;
+  value_given = λ v. refl;
   apart = λ v e. let z : ◌≡◌ {A = ℕ} 0 1 = cc in let w : ⊥ = omega arith in w;
   either = each;
 }

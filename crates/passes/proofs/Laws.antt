@@ -17,7 +17,7 @@ use Rattle.report_record.specs.declared.Channel.{Channel}
 use Rattle.report_record.specs.declared.Report.{Report}
 use Rattle.report_record.specs.Sums.{total_of, row_of}
 use Rattle.report_record.specs.Report.{lines_answering, filler_in, tally_of, ir_pixels, pixels_in, channel_of, report_by, report_of, no_tally, no_channel, tally_at, channel_at, add_tally, add_channel, added, empty_report}
-use Rattle.report_record.proofs.Rows.{length-row, row_at, row_same, row_list}
+use Rattle.report_record.proofs.Rows.{length_row, row_at, row_same, row_list}
 use Rattle.report_record.proofs.Ranges.{wider_comm, wider_assoc, wider_absent}
 use Rattle.report_record.proofs.Adding.{total_append, row_append, channel_append, channel_same, channel_none, tally_same}
 
@@ -29,17 +29,17 @@ report_same {n} {m} {s} {t} {c} {d} e f g =
 -- ---- TWO PASSES IN A ROW
 
 module _ (start : ℕ) (xs ys : List (List ℕ)) where
-  tally-append : (n : ℕ) → tally_of start n (xs ++ ys) ≡ add_tally (tally_of start n xs) (tally_of start n ys)
+  tally_append : (n : ℕ) → tally_of start n (xs ++ ys) ≡ add_tally (tally_of start n xs) (tally_of start n ys)
   unfolding tally_of lines_answering filler_in
-  tally-append n =
+  tally_append n =
       tally_same (total_append (λ (b : List ℕ). when (eqb (answer_of start (layout_of n) b) 0) 1) xs ys)
       (total_append (λ (b : List ℕ). when (eqb (answer_of start (layout_of n) b) 5) 1) xs ys)
       (total_append (λ (b : List ℕ). when (eqb (answer_of start (layout_of n) b) 6) 1) xs ys)
       (total_append (filler_of (layout_of n)) xs ys)
 
-  pixels-append : (c : ℕ) → channel_of (pixels_in start c (xs ++ ys)) ≡ add_channel (channel_of (pixels_in start c xs)) (channel_of (pixels_in start c ys))
+  pixels_append : (c : ℕ) → channel_of (pixels_in start c (xs ++ ys)) ≡ add_channel (channel_of (pixels_in start c xs)) (channel_of (pixels_in start c ys))
   unfolding pixels_in
-  pixels-append c = ap channel_of (row_append (ir_pixels start c) xs ys) ∙ channel_append (in_arow (map (ir_pixels start c) xs)) (in_arow (map (ir_pixels start c) ys))
+  pixels_append c = ap channel_of (row_append (ir_pixels start c) xs ys) ∙ channel_append (in_arow (map (ir_pixels start c) xs)) (in_arow (map (ir_pixels start c) ys))
 
 -- sector i + 1 and channel i + 1 of a report
 pub report_tally : (start : ℕ) (ls : List (List ℕ)) (i : ℕ) → i < 12 → tally_at (report_by start ls) i ≡ tally_of start (suc i) ls
@@ -59,9 +59,9 @@ parts_append start xs ys =
     shown
     ∙ report_same (length-append xs ys ∙ sym (ap₂ (λ (n m : ℕ). n + m) (report_lines start xs) (report_lines start ys)))
     (row_same (λ (i : ℕ). tally_of start (suc i) (xs ++ ys)) (λ (i : ℕ). add_tally (tally_at (report_by start xs) i) (tally_at (report_by start ys) i)) 12
-    (λ i p. tally-append start xs ys (suc i) ∙ sym (ap₂ add_tally (report_tally start xs i p) (report_tally start ys i p))))
+    (λ i p. tally_append start xs ys (suc i) ∙ sym (ap₂ add_tally (report_tally start xs i p) (report_tally start ys i p))))
     (row_same (λ (i : ℕ). channel_of (pixels_in start (suc i) (xs ++ ys))) (λ (i : ℕ). add_channel (channel_at (report_by start xs) i) (channel_at (report_by start ys) i)) 4
-    (λ i p. pixels-append start xs ys (suc i) ∙ sym (ap₂ add_channel (report_channel start xs i p) (report_channel start ys i p))))
+    (λ i p. pixels_append start xs ys (suc i) ∙ sym (ap₂ add_channel (report_channel start xs i p) (report_channel start ys i p))))
     ∙ sum
   where
     shown : report_by start (xs ++ ys) ≡ record { lines = length (xs ++ ys); sectors = row_of (λ (i : ℕ). tally_of start (suc i) (xs ++ ys)) 12; channels = row_of (λ (i : ℕ). channel_of (pixels_in start (suc i) (xs ++ ys))) 4 }
@@ -78,13 +78,13 @@ report_append f xs ys = parts_append (check_start f) xs ys
 -- the report of no lines
 pub report_none : (f : ℕ) → report_of f [] ≡ empty_report
 unfolding report_of report_by empty_report
-report_none f = report_same refl (row_same _ _ 12 (λ i p. refl-tally i)) (row_same _ _ 4 (λ i p. refl-channel i))
+report_none f = report_same refl (row_same _ _ 12 (λ i p. refl_tally i)) (row_same _ _ 4 (λ i p. refl_channel i))
   where
-    refl-tally : (i : ℕ) → tally_of (check_start f) (suc i) [] ≡ no_tally
-    refl-tally i = unfold tally_of lines_answering filler_in total_of in refl
+    refl_tally : (i : ℕ) → tally_of (check_start f) (suc i) [] ≡ no_tally
+    refl_tally i = unfold tally_of lines_answering filler_in total_of in refl
 
-    refl-channel : (i : ℕ) → channel_of (pixels_in (check_start f) (suc i) []) ≡ no_channel
-    refl-channel i = unfold pixels_in in channel_none
+    refl_channel : (i : ℕ) → channel_of (pixels_in (check_start f) (suc i) []) ≡ no_channel
+    refl_channel i = unfold pixels_in in channel_none
 
 -- ---- ADDING GOES IN ANY ORDER
 
@@ -137,11 +137,11 @@ pub record Shaped (r : Report) : Type 0 where
 
 pub report_shaped : (start : ℕ) (ls : List (List ℕ)) → Shaped (report_by start ls)
 unfolding report_by
-report_shaped start ls = record { twelve = length-row (λ (i : ℕ). tally_of start (suc i) ls) 12; four = length-row (λ (i : ℕ). channel_of (pixels_in start (suc i) ls)) 4 }
+report_shaped start ls = record { twelve = length_row (λ (i : ℕ). tally_of start (suc i) ls) 12; four = length_row (λ (i : ℕ). channel_of (pixels_in start (suc i) ls)) 4 }
 
 pub added_shaped : (a b : Report) → Shaped (added a b)
 unfolding added
-added_shaped a b = record { twelve = length-row (λ (i : ℕ). add_tally (tally_at a i) (tally_at b i)) 12; four = length-row (λ (i : ℕ). add_channel (channel_at a i) (channel_at b i)) 4 }
+added_shaped a b = record { twelve = length_row (λ (i : ℕ). add_tally (tally_at a i) (tally_at b i)) 12; four = length_row (λ (i : ℕ). add_channel (channel_at a i) (channel_at b i)) 4 }
 
 empty_tally : (i : ℕ) → i < 12 → tally_at empty_report i ≡ no_tally
 unfolding empty_report
@@ -157,7 +157,7 @@ empty_lines = refl
 
 pub empty_shaped : Shaped empty_report
 unfolding empty_report
-empty_shaped = record { twelve = length-row (λ (i : ℕ). no_tally) 12; four = length-row (λ (i : ℕ). no_channel) 4 }
+empty_shaped = record { twelve = length_row (λ (i : ℕ). no_tally) 12; four = length_row (λ (i : ℕ). no_channel) 4 }
 
 tally_unit : (t : Tally) → add_tally t no_tally ≡ t
 tally_unit t = tally_same (omega arith) (omega arith) (omega arith) (omega arith)

@@ -19,7 +19,7 @@ use Rattle.report_record.specs.Report.{report_by, report_of, tally_of, pixels_in
 use Rattle.report_record.specs.Possible.{most_lines, record_refusal}
 use Rattle.report_record.proofs.Ranges.{absent_exactly}
 use Rattle.report_record.proofs.Possible.{record_passes}
-use Rattle.report_line.proofs.Passing.{report-passes, adds_up}
+use Rattle.report_line.proofs.Passing.{report_passes, adds_up}
 use Rattle.report.specs.Calls.{full_refusal, with_line_refusal, with_line_answer, together_refusal, together_answer}
 use Rattle.report.proofs.Answers.{reported_done, full_within}
 use Rattle.passes.proofs.Laws.{report_append, report_tally, report_channel, report_lines}
@@ -27,7 +27,7 @@ use Rattle.passes.proofs.Laws.{report_append, report_tally, report_channel, repo
 -- ---- EVERY REPORT of at most 100,000 lines of bits passes 12
 pub never_12 : (f : ℕ) (ls : List (List ℕ)) → Plain ls → length ls ≤ most_lines → record_refusal (report_of f ls) ≡ 0
 unfolding report_of
-never_12 f ls p h = record_passes (report_by (check_start f) ls) (report-passes (check_start f) ls p h)
+never_12 f ls p h = record_passes (report_by (check_start f) ls) (report_passes (check_start f) ls p h)
 
 -- ---- ACCEPTED, 5 AND 6 TOGETHER are the lines found, in every sector
 pub counts_add_up : (f : ℕ) (ls : List (List ℕ)) (i : ℕ) → i < 12

@@ -25,12 +25,12 @@ use Rattle.reader.specs.Read.{read_left}
 use Rattle.reader_refusals.specs.Refusing.{largest_setting}
 use Rattle.cuts.specs.Driven as driven
 use Rattle.cuts.specs.Driven.{lent_for, line_in, Driven}
-use Rattle.cuts.proofs.Demand.{demand-3}
+use Rattle.cuts.proofs.Demand.{demand_3}
 use Rattle.cuts.proofs.Sized.{read_length}
 use Rattle.report_record.specs.declared.Report.{Report}
 use Rattle.report_record.specs.Report.{report_of, report_by, added, Plain, empty_report}
 use Rattle.report_record.specs.Possible.{most_lines}
-use Rattle.report_line.proofs.Passing.{report-passes}
+use Rattle.report_line.proofs.Passing.{report_passes}
 use Rattle.report.specs.declared.Reported.{Reported}
 use Rattle.report.specs.Calls.{with_line_refusal, with_line_answer}
 use Rattle.demands.proofs.Fifteen.{exactly_15}
@@ -71,7 +71,7 @@ pub refused_15 : (f : ℕ) → format_refusal f ≡ 0 → (ls : List (List ℕ))
 unfolding report_of
 refused_15 f known ls plain full given =
     (exactly_15 f (report_by (check_start f) ls) given).1
-    (known, report-passes (check_start f) ls plain (omega arith), omega (arith, report_length f ls))
+    (known, report_passes (check_start f) ls plain (omega arith), omega (arith, report_length f ls))
 
 module _ (f : ℕ) (known : format_refusal f ≡ 0) (ls : List (List ℕ)) (plain : Plain ls) (b : List ℕ) (long : line_bytes ≤ length b) where
   room : length ls < most_lines → (with_line_answer f (so_far f ls) b).report ≡ so_far f (ls ++ (line_in b ∷ []))
@@ -102,15 +102,15 @@ module _ (f : ℕ) (known : format_refusal f ≡ 0) (ls : List (List ℕ)) (plai
 
 module _ (f : ℕ) (format : Format) (ok : format_of f ≡ Is format) (setting : ℕ) (small : setting ≤ largest_setting)
     (lend : ℕ → List ℕ → List ℕ) (long : (k : ℕ) (b : List ℕ) → 44356 ≤ length b → 44356 ≤ length (lend k b)) where
-  lent-long : (k : ℕ) (s : State) (buf : List ℕ) → 44356 ≤ length buf → 44356 ≤ length (lent_for lend k s buf)
-  lent-long k s buf m = by s.in_line
+  lent_long : (k : ℕ) (s : State) (buf : List ℕ) → 44356 ≤ length buf → 44356 ≤ length (lent_for lend k s buf)
+  lent_long k s buf m = by s.in_line
     where
       by : (t : Bool) → 44356 ≤ length (cond t buf (lend k buf))
       by true = m
       by false = long k buf m
 
-  read-long : (k : ℕ) (s : State) (p buf : List ℕ) → 44356 ≤ length buf → 44356 ≤ length (read_left f setting s p (lent_for lend k s buf))
-  read-long k s p buf m = subst (λ (n : ℕ). 44356 ≤ n) (sym (read_length f setting s p (lent_for lend k s buf))) (lent-long k s buf m)
+  read_long : (k : ℕ) (s : State) (p buf : List ℕ) → 44356 ≤ length buf → 44356 ≤ length (read_left f setting s p (lent_for lend k s buf))
+  read_long k s p buf m = subst (λ (n : ℕ). 44356 ≤ n) (sym (read_length f setting s p (lent_for lend k s buf))) (lent_long k s buf m)
 
   record Run (k : ℕ) (s : State) (buf : List ℕ) (ps : List (List ℕ)) (before : List (List ℕ)) (q : Report) : Type 0 where
     ls : List (List ℕ)
@@ -124,11 +124,11 @@ module _ (f : ℕ) (format : Format) (ok : format_of f ≡ Is format) (setting :
       let x = run_of d m before h e in
       record { ls = x.ls; handed = driven.Driven.used x.handed; is = x.is }
   run_of {k} {s} {buf} (passes.Reporting.on {p = p} a d) m before h e =
-      let x = run_of d (read-long k s p buf m) before h e in
+      let x = run_of d (read_long k s p buf m) before h e in
       record { ls = x.ls; handed = driven.Driven.on a x.handed; is = x.is }
   run_of {k} {s} {buf} (passes.Reporting.got {p = p} a d) m before h e =
       let b : List ℕ = read_left f setting s p (lent_for lend k s buf) in
-      let room = read-long k s p buf m in
+      let room = read_long k s p buf m in
       let next = ap (λ (z : Report). (with_line_answer f z b).report) e ∙ fed f (is_known f format ok) before h b room in
       let x = run_of d room (before ++ (line_in b ∷ [])) (plain_more before (line_in b) h (line_below b)) next in
       record {
@@ -142,10 +142,10 @@ module _ (f : ℕ) (format : Format) (ok : format_of f ≡ Is format) (setting :
   runs {k} {s} {buf} driven.Driven.end m before h =
       subst (λ (l : List (List ℕ)). Reporting f setting lend k s buf [] (so_far f before) (so_far f l)) (sym (append-nil before)) passes.Reporting.end
   runs (driven.Driven.used d) m before h = passes.Reporting.used (runs d m before h)
-  runs {k} {s} {buf} (driven.Driven.on {p = p} a d) m before h = passes.Reporting.on a (runs d (read-long k s p buf m) before h)
+  runs {k} {s} {buf} (driven.Driven.on {p = p} a d) m before h = passes.Reporting.on a (runs d (read_long k s p buf m) before h)
   runs {k} {s} {buf} (driven.Driven.got {p = p} {ps = ps} {ls = ls} {t = t} {s' = s'} a d) m before h =
       let b : List ℕ = read_left f setting s p (lent_for lend k s buf) in
-      let room = read-long k s p buf m in
+      let room = read_long k s p buf m in
       let rest = runs d room (before ++ (line_in b ∷ [])) (plain_more before (line_in b) h (line_below b)) in
       passes.Reporting.got a
       (subst (λ (r : Report). Reporting f setting lend (suc k) s' b (drop t p ∷ ps) r (so_far f (before ++ (line_in b ∷ ls)))) (sym (fed f (is_known f format ok) before h b room))
@@ -155,10 +155,10 @@ module _ (f : ℕ) (format : Format) (ok : format_of f ≡ Is format) (setting :
   begin = sym (ap (report_of f) (take_all most_lines [] (omega arith)) ∙ report_none f)
 
   -- THE REPORT OF ANY CUT RECORDING: a caller may end with it, and with no other
-  pub report-of-recording : (buf : List ℕ) → 44356 ≤ length buf → (ps : List (List ℕ)) (q : Report)
+  pub report_of_recording : (buf : List ℕ) → 44356 ≤ length buf → (ps : List (List ℕ)) (q : Report)
       → Reporting f setting lend 0 fresh_state buf ps empty_report q ↔ (q ≡ so_far f (recorded setting (in_arow ps)))
-  report-of-recording buf m ps q =
-      let plain = demand-3 f format ok setting small lend long buf m ps in
+  report_of_recording buf m ps q =
+      let plain = demand_3 f format ok setting small lend long buf m ps in
       let d = (plain (recorded setting (in_arow ps))).1 refl in (
         λ run. let x = run_of run m [] plain_nil begin in x.is ∙ ap (so_far f) ((plain x.ls).0 x.handed),
         λ e. subst (λ (z : Report). Reporting f setting lend 0 fresh_state buf ps empty_report z) (sym e)
@@ -166,9 +166,9 @@ module _ (f : ℕ) (format : Format) (ok : format_of f ≡ Is format) (setting :
       )
 
   -- where it has no more than 100,000 lines, the report of all of them
-  pub report-of-pass : (buf : List ℕ) → 44356 ≤ length buf → (ps : List (List ℕ)) (q : Report) → length (recorded setting (in_arow ps)) ≤ most_lines
+  pub report_of_pass : (buf : List ℕ) → 44356 ≤ length buf → (ps : List (List ℕ)) (q : Report) → length (recorded setting (in_arow ps)) ≤ most_lines
       → Reporting f setting lend 0 fresh_state buf ps empty_report q ↔ (q ≡ report_of f (recorded setting (in_arow ps)))
-  report-of-pass buf m ps q few =
+  report_of_pass buf m ps q few =
       let all = ap (report_of f) (take_all most_lines (recorded setting (in_arow ps)) few) in
-      let told = report-of-recording buf m ps q in
+      let told = report_of_recording buf m ps q in
       (λ run. told.0 run ∙ all, λ e. told.1 (e ∙ sym all))

@@ -20,7 +20,7 @@ use Rattle.report_record.specs.declared.Report.{Report}
 use Rattle.report_record.specs.Report.{tally_at, channel_at, add_tally, add_channel, added, report_by, report_of, Plain}
 use Rattle.report_record.specs.Possible.{most_lines, possible_report, record_refusal}
 use Rattle.report_record.proofs.Possible.{TallyFits, ChannelFits, Possible, possible_means, possible_made, record_passes}
-use Rattle.report_line.proofs.Passing.{report-possible}
+use Rattle.report_line.proofs.Passing.{report_possible}
 use Rattle.report.specs.Calls.{full_refusal, with_line_refusal, with_line_answer, together_refusal, together_answer, reported}
 use Rattle.report.proofs.Answers.{reported_done, full_within, together_served, line_served}
 use Rattle.passes.proofs.Laws.{added_tally, added_channel, added_lines, added_comm, added_assoc, report_lines}
@@ -76,7 +76,7 @@ unfolding with_line_answer report_of Plain
 with_line_stays f r line p =
     given_back (with_line_refusal f r (length line)) r (added r (report_by (check_start f) (bits_of line ∷ []))) p
     (λ e. let s = line_served f r (length line) e in
-    added_possible r (report_by (check_start f) (bits_of line ∷ [])) p (report-possible (check_start f) (bits_of line ∷ []) (bits_below line, tt) (omega arith))
+    added_possible r (report_by (check_start f) (bits_of line ∷ [])) p (report_possible (check_start f) (bits_of line ∷ []) (bits_below line, tt) (omega arith))
     (subst (λ (n : ℕ). r.lines + n ≤ most_lines) (sym (report_lines (check_start f) (bits_of line ∷ []))) s.room))
 
 -- ---- the order does not matter, refused or not

@@ -13,7 +13,7 @@ use Rattle.reader_line.specs.declared.Answer.TheVariants.{Refused, More, Line}
 use Rattle.reader.specs.Read.{read_answer, read_left, call_of}
 use Rattle.reader_line.specs.Answers.{call_answer}
 use Rattle.cuts.specs.Driven.{lent_for}
-use Rattle.cuts.proofs.Cases.{read-cases}
+use Rattle.cuts.proofs.Cases.{read_cases}
 use Rattle.rack_recording.specs.declared.ReaderState.{ReaderState}
 use Rattle.rack_recording.specs.declared.ReadAnswer.{ReadAnswer}
 use Rattle.rack_recording.specs.Recording.{kept_of, refused_read, read_given, read_of, line_left}
@@ -23,7 +23,7 @@ use Rattle.rack.proofs.Records.{kept_flag, read_through, line_through}
 -- no refusal has the number 0
 refused_some : (f setting : ℕ) (s : State) (p buf : List ℕ) (n : ℕ) → read_answer f setting s p buf ≡ Refused n → zero < n
 refused_some f setting s p buf =
-    read-cases f setting s p buf (λ (a : Answer) (b : List ℕ). (n : ℕ) → a ≡ Refused n → zero < n)
+    read_cases f setting s p buf (λ (a : Answer) (b : List ℕ). (n : ℕ) → a ≡ Refused n → zero < n)
     (λ m h n e. let z : m ≡ n = cc in omega arith)
     (λ h l n e. let z : ◌≡◌ {A = ℕ} 0 1 = cc in absurd (omega arith))
     (λ h m l n e. go (call_of setting s p buf) n e)
@@ -84,9 +84,9 @@ module _ (f setting : ℕ) (lend : ℕ → List ℕ → List ℕ) where
   lent_same k s r buf e = ap (λ (x : ReaderState). lent_at lend k x buf) e ∙ ap (λ (b : Bool). cond b buf (lend k buf)) (kept_flag s)
 
   -- what the call across the boundary is
-  given-same : (k : ℕ) (s : State) (r : ReaderState) (p buf : List ℕ) → r ≡ kept_of s
+  given_same : (k : ℕ) (s : State) (r : ReaderState) (p buf : List ℕ) → r ≡ kept_of s
       → read_of f setting r p (lent_at lend k r buf) ≡ read_given (kept_of s) (read_answer f setting s p (lent_for lend k s buf))
-  given-same k s r p buf e = ap (read_of f setting r p) (lent_same k s r buf e) ∙ ap (λ (x : ReaderState). read_of f setting x p (lent_for lend k s buf)) e ∙ read_through f setting s p (lent_for lend k s buf)
+  given_same k s r p buf e = ap (read_of f setting r p) (lent_same k s r buf e) ∙ ap (λ (x : ReaderState). read_of f setting x p (lent_for lend k s buf)) e ∙ read_through f setting s p (lent_for lend k s buf)
 
   pub left_same : (k : ℕ) (s : State) (r : ReaderState) (p buf : List ℕ) → r ≡ kept_of s → line_left f setting r p (lent_at lend k r buf) ≡ read_left f setting s p (lent_for lend k s buf)
   left_same k s r p buf e = ap (line_left f setting r p) (lent_same k s r buf e) ∙ ap (λ (x : ReaderState). line_left f setting x p (lent_for lend k s buf)) e ∙ line_through f setting s p (lent_for lend k s buf)
@@ -94,7 +94,7 @@ module _ (f setting : ℕ) (lend : ℕ → List ℕ → List ℕ) where
   pub given_by : (complete : Bool) (k : ℕ) (s : State) (r : ReaderState) (p buf : List ℕ) (t : ℕ) (s' : State) → r ≡ kept_of s
       → read_answer f setting s p (lent_for lend k s buf) ≡ answer_by complete t s'
       → read_of f setting r p (lent_at lend k r buf) ≡ record { refused = 0; complete = complete; taken = t; state = kept_of s' }
-  given_by complete k s r p buf t s' i e = given-same k s r p buf i ∙ ap (read_given (kept_of s)) e ∙ brought complete (kept_of s) t s'
+  given_by complete k s r p buf t s' i e = given_same k s r p buf i ∙ ap (read_given (kept_of s)) e ∙ brought complete (kept_of s) t s'
 
   -- a call that is not refused, on both sides
   pub record Both (complete : Bool) (k : ℕ) (s : State) (r : ReaderState) (p buf : List ℕ) : Type 0 where

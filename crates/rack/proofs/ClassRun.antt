@@ -18,7 +18,7 @@ use Rattle.feeding.specs.Area.{slot_at, put_slot}
 use Rattle.feeding.specs.Feeder as feeder
 use Rattle.feeding.specs.Feeder.{Feeder}
 use Rattle.feeding.specs.OneLine.{OneSlot}
-use Rattle.feeding.proofs.Class.{class-seen}
+use Rattle.feeding.proofs.Class.{class_seen}
 use Rattle.rack_recording.specs.declared.ReaderState.{ReaderState}
 use Rattle.rack_recording.specs.Recording.{kept_of, line_left}
 use Rattle.rack_desk.specs.declared.LineDesk.{LineDesk}
@@ -26,7 +26,7 @@ use Rattle.rack_desk.specs.LineDesk.{desk_handed, seen_of}
 use Rattle.rack.specs.ClassRun as run
 use Rattle.rack.specs.ClassRun.{ClassPlayed}
 use Rattle.rack.proofs.Calls.{Sides, sides}
-use Rattle.rack.proofs.Desks.{fresh_through, fresh_long, take-through, take_long, publish-through, publish-long, release-through, release-long}
+use Rattle.rack.proofs.Desks.{fresh_through, fresh_long, take_through, take_long, publish_through, publish_long, release_through, release_long}
 use Rattle.rack.proofs.Records.{line_through}
 
 module _ (f setting count : ℕ) (first : List ℕ) (pieces : List (List ℕ)) where
@@ -50,7 +50,7 @@ module _ (f setting count : ℕ) (first : List ℕ) (pieces : List (List ℕ)) w
   behind run.ClassPlayed.start = moved fresh_state refl _ _ (fresh_long count) (fresh_through count) feeder.Feeder.start
   behind (run.ClassPlayed.takes {d = b} {area = area} r) =
       let w = behind r in
-      moved w.state w.is _ _ (take_long b w.long (length area)) (take-through b w.long (length area)) (feeder.Feeder.takes w.feeds)
+      moved w.state w.is _ _ (take_long b w.long (length area)) (take_through b w.long (length area)) (feeder.Feeder.takes w.feeds)
   behind (run.ClassPlayed.offers {k = k} {s = z} {d = b} {area = area} {p = p} {ps = ps} i r u none c) =
       let w = behind r in
       let a : Sides f setting false w.state z p (slot_at i area) = sides f setting false w.state z p (slot_at i area) w.is none c in
@@ -75,18 +75,18 @@ module _ (f setting count : ℕ) (first : List ℕ) (pieces : List (List ℕ)) w
       }
   behind (run.ClassPlayed.publishes {d = b} {area = area} i n r l) =
       let w = behind r in
-      moved w.state w.is _ _ (publish-long b w.long (length area) i n) (publish-through b w.long (length area) i n) (feeder.Feeder.publishes i n w.feeds l)
+      moved w.state w.is _ _ (publish_long b w.long (length area) i n) (publish_through b w.long (length area) i n) (feeder.Feeder.publishes i n w.feeds l)
   behind (run.ClassPlayed.next r) =
       let w = behind r in
       record { state = w.state; is = w.is; long = w.long; feeds = feeder.Feeder.next w.feeds }
   behind (run.ClassPlayed.releases {d = b} {area = area} c i n r) =
       let w = behind r in
-      moved w.state w.is _ _ (release-long b w.long (length area) c i n) (release-through b w.long (length area) c i n) (feeder.Feeder.releases c i n w.feeds)
+      moved w.state w.is _ _ (release_long b w.long (length area) c i n) (release_through b w.long (length area) c i n) (feeder.Feeder.releases c i n w.feeds)
 
 module _ (f : ℕ) (format : Format) (ok : format_of f ≡ Is format) (setting : ℕ) (small : setting ≤ largest_setting) (count : ℕ) (first : List ℕ) (pieces : List (List ℕ))
     {k : ℕ} {z : ReaderState} {b : LineDesk} {area : List ℕ} {rest : List (List ℕ)} (r : ClassPlayed f setting count first pieces k z b area rest) where
   -- A LINE IS A LINE: the part of the area that `hansobrik_seen` gives consumer c under serial n
-  pub class-across : (c i n : ℕ) → (seen_of b (length area) c i n).refused ≡ 0
+  pub class_across : (c i n : ℕ) → (seen_of b (length area) c i n).refused ≡ 0
       → OneSlot f setting n (in_arow pieces) (take ((seen_of b (length area) c i n).to - (seen_of b (length area) c i n).from) (drop (seen_of b (length area) c i n).from area))
   unfolding seen_of
-  class-across c i n e = class-seen f format ok setting small count first pieces (behind f setting count first pieces r).feeds c i n e
+  class_across c i n e = class_seen f format ok setting small count first pieces (behind f setting count first pieces r).feeds c i n e

@@ -95,9 +95,9 @@ unfolding fresh_of
 fresh_long count = refl
 
 module _ (b : LineDesk) (long : length b.slots ≡ 8) (area : ℕ) where
-  pub take-through : desk_handed (take_of b area).desk ≡ (take_answer (desk_handed b) area).desk
+  pub take_through : desk_handed (take_of b area).desk ≡ (take_answer (desk_handed b) area).desk
   unfolding take_of
-  take-through =
+  take_through =
       let a : Taken = take_answer (desk_handed b) area in
       through a.refused b (desk_left b a.desk a.slot) a.desk (take_kept (desk_handed b) area) (λ z. done (took_it (desk_handed b) area z).desk (took_it (desk_handed b) area z).slot (small z))
     where
@@ -112,9 +112,9 @@ module _ (b : LineDesk) (long : length b.slots ≡ 8) (area : ℕ) where
   unfolding take_of
   take_long = still_long (take_answer (desk_handed b) area).refused b (take_answer (desk_handed b) area).desk (take_answer (desk_handed b) area).slot long
 
-  pub publish-through : (i n : ℕ) → desk_handed (publish_of b area i n).desk ≡ (publish_answer (desk_handed b) area i n).desk
+  pub publish_through : (i n : ℕ) → desk_handed (publish_of b area i n).desk ≡ (publish_answer (desk_handed b) area i n).desk
   unfolding publish_of
-  publish-through i n =
+  publish_through i n =
       through (publish_answer (desk_handed b) area i n).refused b (desk_left b (publish_answer (desk_handed b) area i n).desk i) (publish_answer (desk_handed b) area i n).desk
       (publish_kept (desk_handed b) area i n) (λ z. done (published_it (desk_handed b) area i n z).desk (small z))
     where
@@ -125,13 +125,13 @@ module _ (b : LineDesk) (long : length b.slots ≡ 8) (area : ℕ) where
           → desk_handed (desk_left b (publish_answer (desk_handed b) area i n).desk i) ≡ (publish_answer (desk_handed b) area i n).desk
       done e l = rw e (left_back b long (desk_handed b).last i (Held n true true) l)
 
-  pub publish-long : (i n : ℕ) → length (publish_of b area i n).desk.slots ≡ 8
+  pub publish_long : (i n : ℕ) → length (publish_of b area i n).desk.slots ≡ 8
   unfolding publish_of
-  publish-long i n = still_long (publish_answer (desk_handed b) area i n).refused b (publish_answer (desk_handed b) area i n).desk i long
+  publish_long i n = still_long (publish_answer (desk_handed b) area i n).refused b (publish_answer (desk_handed b) area i n).desk i long
 
-  pub release-through : (c i n : ℕ) → desk_handed (release_of b area c i n).desk ≡ (release_answer (desk_handed b) area c i n).desk
+  pub release_through : (c i n : ℕ) → desk_handed (release_of b area c i n).desk ≡ (release_answer (desk_handed b) area c i n).desk
   unfolding release_of
-  release-through c i n =
+  release_through c i n =
       through (release_answer (desk_handed b) area c i n).refused b (desk_left b (release_answer (desk_handed b) area c i n).desk i) (release_answer (desk_handed b) area c i n).desk
       (release_kept (desk_handed b) area c i n) (λ z. done (released_it (desk_handed b) area c i n z).desk (small z))
     where
@@ -142,6 +142,6 @@ module _ (b : LineDesk) (long : length b.slots ≡ 8) (area : ℕ) where
           → desk_handed (desk_left b (release_answer (desk_handed b) area c i n).desk i) ≡ (release_answer (desk_handed b) area c i n).desk
       done e l = rw e (left_back b long (desk_handed b).last i (let_go c (slot_of (desk_handed b) i)) l)
 
-  pub release-long : (c i n : ℕ) → length (release_of b area c i n).desk.slots ≡ 8
+  pub release_long : (c i n : ℕ) → length (release_of b area c i n).desk.slots ≡ 8
   unfolding release_of
-  release-long c i n = still_long (release_answer (desk_handed b) area c i n).refused b (release_answer (desk_handed b) area c i n).desk i long
+  release_long c i n = still_long (release_answer (desk_handed b) area c i n).refused b (release_answer (desk_handed b) area c i n).desk i long

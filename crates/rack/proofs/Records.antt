@@ -81,11 +81,11 @@ line_through f setting s piece line = rw (flag_fits s.in_line, handed_kept s)
 
 -- A CALL FROM ANY RECORD: refused for its flag, or the reader's call with what the record stands for
 module _ (f setting : ℕ) (r : ReaderState) (piece buf : List ℕ) (P : ReadAnswer → List ℕ → Type 0) where
-  pub read-ways : P (refused_read (flag_refusal f setting) r) buf
+  pub read_ways : P (refused_read (flag_refusal f setting) r) buf
       → (kept_of (handed_of r) ≡ r → P (read_given r (read_answer f setting (handed_of r) piece buf)) (read_left f setting (handed_of r) piece buf))
       → P (read_of f setting r piece buf) (line_left f setting r piece buf)
   unfolding read_of line_left
-  read-ways turned served = go (ltb 1 r.in_line) refl
+  read_ways turned served = go (ltb 1 r.in_line) refl
     where
       go : (b : Bool) → ltb 1 r.in_line ≡ b
           → P (cond b (refused_read (flag_refusal f setting) r) (read_given r (read_answer f setting (handed_of r) piece buf))) (cond b buf (read_left f setting (handed_of r) piece buf))
@@ -109,11 +109,11 @@ given_taken was (Line t s) = refl
 pub read_refused : (f setting : ℕ) (r : ReaderState) (piece buf : List ℕ) → zero < (read_of f setting r piece buf).refused → Unchanged r buf (read_of f setting r piece buf) (line_left f setting r piece buf)
 unfolding refused_read read_given
 read_refused f setting r piece buf =
-    read-ways f setting r piece buf (λ (a : ReadAnswer) (after : List ℕ). zero < a.refused → Unchanged r buf a after)
-    (λ h. record { given_back = refl; taken_none = refl; none-complete = refl; buffer = refl })
+    read_ways f setting r piece buf (λ (a : ReadAnswer) (after : List ℕ). zero < a.refused → Unchanged r buf a after)
+    (λ h. record { given_back = refl; taken_none = refl; none_complete = refl; buffer = refl })
     (λ k. by (read_answer f setting (handed_of r) piece buf) refl)
   where
     by : (x : Answer) → read_answer f setting (handed_of r) piece buf ≡ x → zero < (read_given r x).refused → Unchanged r buf (read_given r x) (read_left f setting (handed_of r) piece buf)
-    by (Refused n) e h = record { given_back = refl; taken_none = refl; none-complete = refl; buffer = refused_stays f setting (handed_of r) piece buf n e }
+    by (Refused n) e h = record { given_back = refl; taken_none = refl; none_complete = refl; buffer = refused_stays f setting (handed_of r) piece buf n e }
     by (More t s) e h = absurd (omega arith)
     by (Line t s) e h = absurd (omega arith)

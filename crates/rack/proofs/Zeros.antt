@@ -46,7 +46,7 @@ use Rattle.entries.specs.declared.revision.Revised.TheVariants as revised
 use Rattle.calibration.specs.declared.Level.{Level}
 use Rattle.calibration.specs.declared.Level.TheVariants as level
 use Rattle.calibration.specs.declared.LevelF64.{LevelF64}
-use Rattle.calibration.specs.declared.LevelF64.TheVariants as level-f64
+use Rattle.calibration.specs.declared.LevelF64.TheVariants as level_f64
 use Rattle.rack_blocks.specs.declared.AssemblyRecord.{AssemblyRecord}
 use Rattle.entries.specs.declared.mapping.Mapped.{Mapped}
 use Rattle.entries.specs.declared.mapping.Mapped.TheVariants as mapped
@@ -173,8 +173,8 @@ level_row (level.Refused n) h = refl
 
 level_f64_row : (a : LevelF64) → LevelFloatAlone (level_f64_given a)
 unfolding level_f64_given
-level_f64_row (level-f64.Is v) h = absurd (h refl)
-level_f64_row (level-f64.Refused n) h = refl
+level_f64_row (level_f64.Is v) h = absurd (h refl)
+level_f64_row (level_f64.Refused n) h = refl
 
 step_row : (register : ℕ) → StepBack register (step_given (step_answer register) (register_left register))
 unfolding step_given step_answer register_left answered kept
@@ -194,7 +194,7 @@ parts a b t s p q r =
     ∙ ap (λ (z : ReaderState). record { refused = a.refused; complete = b; taken = t; state = z }) r
 
 read_row : (f setting : ℕ) (s : ReaderState) (piece line : List ℕ) → ReadBack s (read_of f setting s piece line)
-read_row f setting s piece line h = let u = read_refused f setting s piece line (some (read_of f setting s piece line).refused h) in parts (read_of f setting s piece line) false 0 s u.none-complete u.taken_none u.given_back
+read_row f setting s piece line h = let u = read_refused f setting s piece line (some (read_of f setting s piece line).refused h) in parts (read_of f setting s piece line) false 0 s u.none_complete u.taken_none u.given_back
   where
     some : (n : ℕ) → (n ≡ 0 → ⊥) → zero < n
     some zero h = absurd (h refl)
@@ -249,13 +249,13 @@ pub zeros : Zeros
 zeros = record {
   format-of = format_row;
   step = step_row;
-  put-sync = sync_row;
+  put_sync = sync_row;
   read = read_row;
-  write-line = written_row;
+  write_line = written_row;
   filler = filler_row;
   answers = twelve_row;
   strip = strip_row;
-  with-line = with_line_row;
+  with_line = with_line_row;
   together = together_row;
   take = take_row;
   publish = publish_row;
@@ -265,15 +265,15 @@ zeros = record {
   bcd = bcd_row;
   real = real_row;
   float = float_row;
-  scan-mode = scan_row;
-  scanner-select = scanner_row;
-  line-numbers = lines_row;
+  scan_mode = scan_row;
+  scanner_select = scanner_row;
+  line_numbers = lines_row;
   date = date_row;
-  sub-commutation = segment_row;
-  add-segment = add_row;
+  sub_commutation = segment_row;
+  add_segment = add_row;
   revision = revision_row;
   level = level_row;
-  level-f64 = level_f64_row;
+  level_f64 = level_f64_row;
   mapping = grid_row;
   elements = orbit_row;
 }

@@ -14,7 +14,7 @@ use Rattle.rack.specs.Run.{lent_at, Played, taken_at, MomentAt, StandingAt}
 pub record Unchanged (r : ReaderState) (buf : List ℕ) (a : ReadAnswer) (after : List ℕ) : Type 0 where
   pub given_back : a.state ≡ r
   pub taken_none : a.taken ≡ 0
-  pub none-complete : a.complete ≡ false
+  pub none_complete : a.complete ≡ false
   pub buffer : after ≡ buf
 
 pub record Demand3 (f setting : ℕ) (lend : ℕ → List ℕ → List ℕ) (first : List ℕ) : Type 0 where
@@ -22,11 +22,11 @@ pub record Demand3 (f setting : ℕ) (lend : ℕ → List ℕ → List ℕ) (fir
   -- that order, an unfinished last one never
   pub a : (ps ls : List (List ℕ)) → Played f setting lend 0 (kept_of fresh_state) first ps ls ↔ (ls ≡ recorded setting (in_arow ps))
   -- at every moment they are those of the bytes taken so far, and of the bits read so far ..
-  pub a-bytes : {k : ℕ} {s : ReaderState} {buf bytes : List ℕ} {ls : List (List ℕ)} → MomentAt f setting lend first k s buf bytes ls → ls ≡ recorded setting bytes
-  pub a-bits : {k : ℕ} {s : ReaderState} {buf bytes : List ℕ} {ls : List (List ℕ)} → MomentAt f setting lend first k s buf bytes ls
+  pub a_bytes : {k : ℕ} {s : ReaderState} {buf bytes : List ℕ} {ls : List (List ℕ)} → MomentAt f setting lend first k s buf bytes ls → ls ≡ recorded setting bytes
+  pub a_bits : {k : ℕ} {s : ReaderState} {buf bytes : List ℕ} {ls : List (List ℕ)} → MomentAt f setting lend first k s buf bytes ls
       → ls ≡ lines setting (take (8 * length bytes - s.unread_count) (bits_of bytes))
   -- .. and a line is handed out right at its last bit: of the bits read without that one, it is no line yet
-  pub a-last-bit : {k : ℕ} {s : ReaderState} {buf bytes : List ℕ} {ls : List (List ℕ)} → MomentAt f setting lend first k s buf bytes ls → (p : List ℕ) (answer : ReadAnswer)
+  pub a_last_bit : {k : ℕ} {s : ReaderState} {buf bytes : List ℕ} {ls : List (List ℕ)} → MomentAt f setting lend first k s buf bytes ls → (p : List ℕ) (answer : ReadAnswer)
       → answer ≡ read_of f setting s p (lent_at lend k s buf) → answer.refused ≡ 0 → answer.complete ≡ true
       → lines setting (take (8 * length (bytes ++ take answer.taken p) - answer.state.unread_count - 1) (bits_of (bytes ++ take answer.taken p))) ≡ ls
   -- b. While a line stands whole in the buffer, each pixel joined from it is four times the upper part plus the lower part of that one
@@ -39,6 +39,6 @@ pub record Demand3 (f setting : ℕ) (lend : ℕ → List ℕ → List ℕ) (fir
   -- d. The bytes taken are the advance in the recording: a run takes every byte of its pieces ..
   pub d : (ps ls : List (List ℕ)) (run : Played f setting lend 0 (kept_of fresh_state) first ps ls) → taken_at run ≡ length (in_arow ps)
   -- .. a call, from any record, no more than it is offered, at least one byte of a piece that has any, and nothing of an empty one
-  pub d-most : (r : ReaderState) (p buf : List ℕ) → (read_of f setting r p buf).taken ≤ length p
-  pub d-one : (r : ReaderState) (p buf : List ℕ) → (read_of f setting r p buf).refused ≡ 0 → zero < length p → 1 ≤ (read_of f setting r p buf).taken
-  pub d-none : (r : ReaderState) (buf : List ℕ) → (read_of f setting r [] buf).refused ≡ 0 → Unchanged r buf (read_of f setting r [] buf) (line_left f setting r [] buf)
+  pub d_most : (r : ReaderState) (p buf : List ℕ) → (read_of f setting r p buf).taken ≤ length p
+  pub d_one : (r : ReaderState) (p buf : List ℕ) → (read_of f setting r p buf).refused ≡ 0 → zero < length p → 1 ≤ (read_of f setting r p buf).taken
+  pub d_none : (r : ReaderState) (buf : List ℕ) → (read_of f setting r [] buf).refused ≡ 0 → Unchanged r buf (read_of f setting r [] buf) (line_left f setting r [] buf)

@@ -30,10 +30,10 @@ given v = cond v.0 (Line v.1 v.2) (More v.1 v.2)
 
 reading : (s : State) → Kind Refused given refusal_of (values s) (false, 0, s)
 reading s = record {
-  number-refused = λ n. refl;
-  number-given = λ v. number v.0 v.1 v.2;
-  value-refused = λ n. refl;
-  value-given = λ v. value v.0 v.1 v.2;
+  number_refused = λ n. refl;
+  number_given = λ v. number v.0 v.1 v.2;
+  value_refused = λ n. refl;
+  value_given = λ v. value v.0 v.1 v.2;
   apart = λ v. apart v.0 v.1 v.2;
   either = each;
 }
@@ -63,18 +63,18 @@ module _ (f k : ℕ) (s : State) (piece buf : List ℕ) where
   served : Values
   served = (served_whole k s piece buf, served_taken k s piece buf, served_state k s piece buf)
 
-  served-is : served_answer k s piece buf ≡ given served
+  served_is : served_answer k s piece buf ≡ given served
   unfolding served served_taken served_whole served_state served_answer
-  served-is = go (eqb (length piece) 0) (call_of k s piece buf)
+  served_is = go (eqb (length piece) 0) (call_of k s piece buf)
     where
       go : (e : Bool) (c : Call Bench) → cond e (More 0 s) (call_answer c) ≡ given (cond e false (call_whole c), cond e 0 (call_taken c), cond e s (call_state c))
       go true c = refl
       go false (more t b n v) = refl
       go false (whole t b n v) = refl
 
-  answer-is : read_answer f k s piece buf ≡ answered Refused (read_refusal f k s (length buf)) (given served)
+  answer_is : read_answer f k s piece buf ≡ answered Refused (read_refusal f k s (length buf)) (given served)
   unfolding read_answer
-  answer-is = ap (answered Refused (read_refusal f k s (length buf))) served-is
+  answer_is = ap (answered Refused (read_refusal f k s (length buf))) served_is
 
   -- the values one by one
   parts : (n : ℕ) → ◌≡◌ {A = Values} (kept n (false, 0, s) served) (kept n false (served_whole k s piece buf), kept n 0 (served_taken k s piece buf), kept n s (served_state k s piece buf))
@@ -84,7 +84,7 @@ module _ (f k : ℕ) (s : State) (piece buf : List ℕ) where
 
   pub read_told : (r : Answer) → r ≡ read_answer f k s piece buf → ReadOk f k s piece buf r
   read_told r e =
-      let h = says_of (reading s) r (read_refusal f k s (length buf)) served (e ∙ answer-is) in
+      let h = says_of (reading s) r (read_refusal f k s (length buf)) served (e ∙ answer_is) in
       let v = h.1 ∙ parts (read_refusal f k s (length buf)) in
       record {
         number = h.0;
@@ -98,4 +98,4 @@ module _ (f k : ℕ) (s : State) (piece buf : List ℕ) where
   read_is r h =
       says_is (reading s) (read_refusal f k s (length buf)) served r
       (h.number, same_values h.complete h.taken h.state ∙ sym (parts (read_refusal f k s (length buf))), h.genuine)
-      ∙ sym answer-is
+      ∙ sym answer_is

@@ -16,21 +16,21 @@ pub data Call (S : Type 0) : Type 0 where
 
 module _ {S : Type 0} (step : S → ℕ → S) (done : S → ℕ → Bool) where
   -- the n low bits of v, with t bytes taken; then, if nothing is complete, `k`
-  unfoldable pub bitsThen : (S → Call S) → ℕ → S → ℕ → ℕ → Call S
-  bitsThen k t s zero v = k s
-  bitsThen k t s (suc n) v =
-      cond (done s (bit_of n v)) (whole t (step s (bit_of n v)) n (v % 2 ^ n)) (bitsThen k t (step s (bit_of n v)) n v)
+  unfoldable pub bits_then : (S → Call S) → ℕ → S → ℕ → ℕ → Call S
+  bits_then k t s zero v = k s
+  bits_then k t s (suc n) v =
+      cond (done s (bit_of n v)) (whole t (step s (bit_of n v)) n (v % 2 ^ n)) (bits_then k t (step s (bit_of n v)) n v)
 
   -- bytes, with t taken before them
   abbrev pub bytes_from : List ℕ → ℕ → S → Call S
   bytes_from [] t s = more t s 0 0
-  bytes_from (y ∷ ys) t s = bitsThen (λ s'. bytes_from ys (suc t) s') (suc t) s 8 y
+  bytes_from (y ∷ ys) t s = bits_then (λ s'. bytes_from ys (suc t) s') (suc t) s 8 y
 
   -- ONE CALL with the n unread bits of value v: an empty piece changes nothing; else the unread bits, and then the bytes
   abbrev pub call : S → ℕ → ℕ → List ℕ → Call S
   call s n v [] = more 0 s n v
-  call s n v (y ∷ ys) = bitsThen (λ s'. bytes_from (y ∷ ys) 0 s') 0 s n v
+  call s n v (y ∷ ys) = bits_then (λ s'. bytes_from (y ∷ ys) 0 s') 0 s n v
 
   -- a call on its way: t bytes are taken, the n low bits of v are to be read next, and then the bytes from t on
   unfoldable pub resume : List ℕ → ℕ → S → ℕ → ℕ → Call S
-  resume p t s n v = bitsThen (λ s'. bytes_from (drop t p) t s') t s n v
+  resume p t s n v = bits_then (λ s'. bytes_from (drop t p) t s') t s n v

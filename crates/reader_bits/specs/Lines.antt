@@ -15,25 +15,25 @@ module _ (W : ℕ) (test : List ℕ → Bool) where
   opens bs = leb W (length bs) && test (take W bs)
 
   -- what stands after the first such window; none where there is none
-  abbrev pub afterTail : List ℕ → Option (List ℕ)
-  afterTail [] = none
-  afterTail (b ∷ bs) = cond (opens (b ∷ bs)) (some (drop W (b ∷ bs))) (afterTail bs)
+  abbrev pub after_tail : List ℕ → Option (List ℕ)
+  after_tail [] = none
+  after_tail (b ∷ bs) = cond (opens (b ∷ bs)) (some (drop W (b ∷ bs))) (after_tail bs)
 
 module _ (N : ℕ) (plain : List ℕ → List ℕ) where
   -- the line that begins here, if it is whole, and then what `next` finds in the bits after it
-  abbrev pub lineThen : (List ℕ → List (List ℕ)) → Option (List ℕ) → List (List ℕ)
-  lineThen next none = []
-  lineThen next (some rest) = cond (leb N (length rest)) (plain (take N rest) ∷ next (drop N rest)) []
+  abbrev pub line_then : (List ℕ → List (List ℕ)) → Option (List ℕ) → List (List ℕ)
+  line_then next none = []
+  line_then next (some rest) = cond (leb N (length rest)) (plain (take N rest) ∷ next (drop N rest)) []
 
 module _ (W : ℕ) (test : List ℕ → Bool) (N : ℕ) (plain : List ℕ → List ℕ) where
   -- at most n lines
-  unfoldable pub linesUpTo : ℕ → List ℕ → List (List ℕ)
-  linesUpTo zero bs = []
-  linesUpTo (suc n) bs = lineThen N plain (λ rest. linesUpTo n rest) (afterTail W test bs)
+  unfoldable pub lines_up_to : ℕ → List ℕ → List (List ℕ)
+  lines_up_to zero bs = []
+  lines_up_to (suc n) bs = line_then N plain (λ rest. lines_up_to n rest) (after_tail W test bs)
 
-  -- the lines: there are no more of them than bits (`linesOf-eq` in `cuts/proofs/Windows` says it without the count)
+  -- the lines: there are no more of them than bits (`lines_of_eq` in `cuts/proofs/Windows` says it without the count)
   unfoldable pub lines_of : List ℕ → List (List ℕ)
-  lines_of bs = linesUpTo (length bs) bs
+  lines_of bs = lines_up_to (length bs) bs
 
 -- ---- document 01, with the setting of request T-01
 

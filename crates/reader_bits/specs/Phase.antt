@@ -15,11 +15,11 @@ pub data Phase : Type 0 where
 module _ (W : ℕ) (test : List ℕ → Bool) (M : ℕ) where
   -- the first whole window that is a tail begins a line, with fifteen ones; the last bit of a line ends it, and nothing
   -- of the search before it or of the line is remembered
-  unfoldable pub phaseNext : Phase → ℕ → Phase
-  phaseNext (seeking c w) b =
+  unfoldable pub phase_next : Phase → ℕ → Phase
+  phase_next (seeking c w) b =
       cond (ltb (suc c) W) (seeking (suc c) (w * 2 + b))
       (cond (test (digits W (w * 2 + b))) (within 0 fifteen_ones 0) (seeking c ((w * 2 + b) % 2 ^ c)))
-  phaseNext (within p r q) b =
+  phase_next (within p r q) b =
       cond (leb (M * 8) (suc p)) (seeking 0 0)
       (within (suc p) (next_register r) (cond (eqb (p % 8) 7) 0 (q * 2 + plain_bit p r b)))
 
@@ -39,7 +39,7 @@ Bench = Phase × List ℕ
 
 -- one bit
 abbrev pub step : (W : ℕ) (test : List ℕ → Bool) (M : ℕ) → Bench → ℕ → Bench
-step W test M s b = (phaseNext W test M s.0 b, buffer_next s.0 b s.1)
+step W test M s b = (phase_next W test M s.0 b, buffer_next s.0 b s.1)
 
 abbrev pub done : ℕ → Bench → ℕ → Bool
 done M s b = completes M s.0 b

@@ -13,36 +13,36 @@ use Rattle.bits.proofs.Same.{both}
 -- ---- the counts
 
 module _ (s : State) where
-  pub counts-wait : s.in_line ≡ true → (s.waiting_count ≡ s.position % 8 → ⊥) → false ≡ counts_of s
+  pub counts_wait : s.in_line ≡ true → (s.waiting_count ≡ s.position % 8 → ⊥) → false ≡ counts_of s
   unfolding counts_of
-  counts-wait i w = sym (rw (i, ne_eqb _ _ w))
+  counts_wait i w = sym (rw (i, ne_eqb _ _ w))
 
-  pub counts-in : s.in_line ≡ true → s.waiting_count ≡ s.position % 8 → eqb s.unread_count 0 ≡ counts_of s
+  pub counts_in : s.in_line ≡ true → s.waiting_count ≡ s.position % 8 → eqb s.unread_count 0 ≡ counts_of s
   unfolding counts_of
-  counts-in i w = sym (rw (i, eq-eqb _ _ w))
+  counts_in i w = sym (rw (i, eq-eqb _ _ w))
 
-  pub counts-out : s.in_line ≡ false → eqb s.waiting_count 0 ≡ counts_of s
+  pub counts_out : s.in_line ≡ false → eqb s.waiting_count 0 ≡ counts_of s
   unfolding counts_of
-  counts-out i = sym (rw i)
+  counts_out i = sym (rw i)
 
-  pub counts-true-in : s.in_line ≡ true → counts_of s ≡ true → (s.waiting_count ≡ s.position % 8) × (s.unread_count ≡ 0)
+  pub counts_true_in : s.in_line ≡ true → counts_of s ≡ true → (s.waiting_count ≡ s.position % 8) × (s.unread_count ≡ 0)
   unfolding counts_of
-  counts-true-in i e =
+  counts_true_in i e =
       let h : eqb s.waiting_count (s.position % 8) && eqb s.unread_count 0 ≡ true = rw i at e in
       let k = both (eqb s.waiting_count (s.position % 8)) (eqb s.unread_count 0) h in
       (eqb-true _ _ k.0, eqb-true _ _ k.1)
 
-  pub counts-true-out : s.in_line ≡ false → counts_of s ≡ true → s.waiting_count ≡ 0
+  pub counts_true_out : s.in_line ≡ false → counts_of s ≡ true → s.waiting_count ≡ 0
   unfolding counts_of
-  counts-true-out i e = let h : eqb s.waiting_count 0 ≡ true = rw i at e in eqb-true _ _ h
+  counts_true_out i e = let h : eqb s.waiting_count 0 ≡ true = rw i at e in eqb-true _ _ h
 
   -- fewer than eight bits wait
-  pub counts-seven : counts_of s ≡ true → s.waiting_count ≤ 7
-  counts-seven e = go s.in_line refl
+  pub counts_seven : counts_of s ≡ true → s.waiting_count ≤ 7
+  counts_seven e = go s.in_line refl
     where
       go : (i : Bool) → s.in_line ≡ i → s.waiting_count ≤ 7
-      go true i = let h = counts-true-in i e in let k = mod-lt s.position (zero-lt-suc 7) in omega (arith, h.0)
-      go false i = let h = counts-true-out i e in omega arith
+      go true i = let h = counts_true_in i e in let k = mod-lt s.position (zero-lt-suc 7) in omega (arith, h.0)
+      go false i = let h = counts_true_out i e in omega arith
 
 -- ---- the whole test, in the code's order
 
@@ -52,9 +52,9 @@ module _ (s : State) where
   no_place h = sym (rw (lt-leb s.position 354847 h))
 
   module _ (a : s.position < 354848) where
-    pub no-count : 63 < s.search_count → false ≡ possible_of s
+    pub no_count : 63 < s.search_count → false ≡ possible_of s
     unfolding possible_of
-    no-count h = sym (rw (le-leb s.position 354847 (le_of_suc-le-suc a), lt-leb s.search_count 63 h))
+    no_count h = sym (rw (le-leb s.position 354847 (le_of_suc-le-suc a), lt-leb s.search_count 63 h))
 
     module _ (b : s.search_count ≤ 63) where
       pub no_register : 32767 < s.register → false ≡ possible_of s
@@ -62,16 +62,16 @@ module _ (s : State) where
       no_register h = sym (rw (le-leb s.position 354847 (le_of_suc-le-suc a), le-leb s.search_count 63 b, lt-leb s.register 32767 h))
 
       module _ (c : s.register ≤ 32767) where
-        pub no-unread : 7 < s.unread_count → false ≡ possible_of s
+        pub no_unread : 7 < s.unread_count → false ≡ possible_of s
         unfolding possible_of
-        no-unread h =
+        no_unread h =
             sym (rw (le-leb s.position 354847 (le_of_suc-le-suc a), le-leb s.search_count 63 b, le-leb s.register 32767 c, lt-leb s.unread_count 7 h))
 
         -- the fields and the counts are left
-        pub fields-left : s.unread_count ≤ 7
+        pub fields_left : s.unread_count ≤ 7
             → possible_of s ≡ (ltb s.search (2 ^ s.search_count) && (ltb s.unread (2 ^ s.unread_count) && (counts_of s && ltb s.waiting (2 ^ s.waiting_count))))
         unfolding possible_of
-        fields-left d =
+        fields_left d =
             rw (le-leb s.position 354847 (le_of_suc-le-suc a), le-leb s.search_count 63 b, le-leb s.register 32767 c, le-leb s.unread_count 7 d)
 
 -- ---- what is known of a record that passes

@@ -21,17 +21,17 @@ module _ {A : Type 0} (refuse : ℕ → A) where
   given_none r k x y e z h = none y ∙ ap₂ (answered refuse) (sym z ∙ e) h
 
   -- A REFUSED CALL LEAVES ITS SLICE: what was asked for is no refusal
-  pub answered-kept : {B : Type 0} (k : ℕ) (x : A) (n : ℕ) (was becomes : B) → (x ≡ refuse n → ⊥) → answered refuse k x ≡ refuse n → kept k was becomes ≡ was
+  pub answered_kept : {B : Type 0} (k : ℕ) (x : A) (n : ℕ) (was becomes : B) → (x ≡ refuse n → ⊥) → answered refuse k x ≡ refuse n → kept k was becomes ≡ was
   unfolding answered kept
-  answered-kept zero x n was becomes h e = absurd (h e)
-  answered-kept (suc k) x n was becomes h e = refl
+  answered_kept zero x n was becomes h e = absurd (h e)
+  answered_kept (suc k) x n was becomes h e = refl
 
   -- the first two tests, and then the third
-  pub answered-first : (a b c : ℕ) (x : A) → answered refuse (first a (first b c)) x ≡ answered refuse (first a b) (answered refuse c x)
+  pub answered_first : (a b c : ℕ) (x : A) → answered refuse (first a (first b c)) x ≡ answered refuse (first a b) (answered refuse c x)
   unfolding answered first
-  answered-first zero zero c x = refl
-  answered-first zero (suc b) c x = refl
-  answered-first (suc a) b c x = refl
+  answered_first zero zero c x = refl
+  answered_first zero (suc b) c x = refl
+  answered_first (suc a) b c x = refl
 
   -- past a chain whose refusals are not the answer
   pub unrefused : (k : ℕ) (x answer : A) → ((j : ℕ) → refuse j ≡ answer → ⊥) → answered refuse k x ≡ answer → (k ≡ 0) × (x ≡ answer)

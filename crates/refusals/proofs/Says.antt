@@ -8,10 +8,10 @@ use Rattle.refusals.specs.Refusals.{answered, kept, Genuine}
 
 -- a kind of answer: a refusal by its number, or what was asked for; and what the paper reads in each
 pub record Kind {A B : Type 0} (refuse : ℕ → A) (give : B → A) (number : A → ℕ) (value : A → B) (nothing : B) : Type 1 where
-  pub number-refused : (n : ℕ) → number (refuse n) ≡ n
-  pub number-given : (v : B) → number (give v) ≡ 0
-  pub value-refused : (n : ℕ) → value (refuse n) ≡ nothing
-  pub value-given : (v : B) → value (give v) ≡ v
+  pub number_refused : (n : ℕ) → number (refuse n) ≡ n
+  pub number_given : (v : B) → number (give v) ≡ 0
+  pub value_refused : (n : ℕ) → value (refuse n) ≡ nothing
+  pub value_given : (v : B) → value (give v) ≡ v
   pub apart : (v : B) → Genuine refuse (give v)
   pub either : (P : A → Type 0) → ((n : ℕ) → P (refuse n)) → ((v : B) → P (give v)) → (r : A) → P r
 
@@ -25,14 +25,14 @@ module _ {A B : Type 0} {refuse : ℕ → A} {give : B → A} {number : A → �
   unfolding kept
   says_some zero k v e h = absurd (h refl)
   says_some (suc r) k v e h = (
-    kind.number-refused (suc r) ∙ e,
-    kind.value-refused (suc r) ∙ ap (λ (j : ℕ). kept j nothing v) e,
-    λ z. suc-ne-zero r (sym (kind.number-refused (suc r)) ∙ ap number z ∙ kind.number-refused 0),
+    kind.number_refused (suc r) ∙ e,
+    kind.value_refused (suc r) ∙ ap (λ (j : ℕ). kept j nothing v) e,
+    λ z. suc-ne-zero r (sym (kind.number_refused (suc r)) ∙ ap number z ∙ kind.number_refused 0),
   )
 
   pub says_none : (r k : ℕ) (v w : B) → r ≡ k → r ≡ 0 → w ≡ v → Says k v (give w)
   unfolding kept
-  says_none zero k v w e z h = (kind.number-given w ∙ e, kind.value-given w ∙ h ∙ ap (λ (j : ℕ). kept j nothing v) e, kind.apart w)
+  says_none zero k v w e z h = (kind.number_given w ∙ e, kind.value_given w ∙ h ∙ ap (λ (j : ℕ). kept j nothing v) e, kind.apart w)
   says_none (suc r) k v w e z h = absurd (suc-ne-zero r z)
 
   -- an answer that is known says so
@@ -47,23 +47,23 @@ module _ {A B : Type 0} {refuse : ℕ → A} {give : B → A} {number : A → �
   says_is k v r s = kind.either (λ (x : A). Says k v x → x ≡ answered refuse k (give v)) (refused k) (given k) r s
     where
       refused : (k n : ℕ) → Says k v (refuse n) → refuse n ≡ answered refuse k (give v)
-      refused zero n s = absurd (s.2 (ap refuse (sym (kind.number-refused n) ∙ s.0)))
-      refused (suc k) n s = ap refuse (sym (kind.number-refused n) ∙ s.0)
+      refused zero n s = absurd (s.2 (ap refuse (sym (kind.number_refused n) ∙ s.0)))
+      refused (suc k) n s = ap refuse (sym (kind.number_refused n) ∙ s.0)
 
       given : (k : ℕ) (w : B) → Says k v (give w) → give w ≡ answered refuse k (give v)
-      given zero w s = ap give (sym (kind.value-given w) ∙ s.1)
-      given (suc k) w s = absurd (suc-ne-zero k (sym s.0 ∙ kind.number-given w))
+      given zero w s = ap give (sym (kind.value_given w) ∙ s.1)
+      given (suc k) w s = absurd (suc-ne-zero k (sym s.0 ∙ kind.number_given w))
 
   -- ANY TWO ANSWERS THAT A CONTRACT ALLOWS ARE THE SAME
-  pub says-one : (k : ℕ) (v : B) (r s : A) → Says k v r → Says k v s → r ≡ s
-  says-one k v r s p q = says_is k v r p ∙ sym (says_is k v s q)
+  pub says_one : (k : ℕ) (v : B) (r s : A) → Says k v r → Says k v s → r ≡ s
+  says_one k v r s p q = says_is k v r p ∙ sym (says_is k v s q)
 
 -- AN ANSWER CARRIED OVER TO ANOTHER KIND, refused as it was and else with a value made of its own
 module _ {A B A' B' : Type 0} {refuse : ℕ → A} {give : B → A} {number : A → ℕ} {value : A → B} {nothing : B} {refuse' : ℕ → A'} {give' : B' → A'} {number' : A' → ℕ} {value' : A' → B'} {nothing' : B'}
     (kind : Kind refuse give number value nothing) (kind' : Kind refuse' give' number' value' nothing') (over : A → A') (made : B → B') where
-  pub says-carried : ((n : ℕ) → over (refuse n) ≡ refuse' n) → ((v : B) → over (give v) ≡ give' (made v)) → (k : ℕ) (v : B) (a : A) (x : A') → Says kind k v a → x ≡ over a → Says kind' k (made v) x
+  pub says_carried : ((n : ℕ) → over (refuse n) ≡ refuse' n) → ((v : B) → over (give v) ≡ give' (made v)) → (k : ℕ) (v : B) (a : A) (x : A') → Says kind k v a → x ≡ over a → Says kind' k (made v) x
   unfolding answered
-  says-carried refused given k v a x s e = says_of kind' x k (made v) (e ∙ ap over (says_is kind k v a s) ∙ go k)
+  says_carried refused given k v a x s e = says_of kind' x k (made v) (e ∙ ap over (says_is kind k v a s) ∙ go k)
     where
       go : (k : ℕ) → over (answered refuse k (give v)) ≡ answered refuse' k (give' (made v))
       go zero = given v

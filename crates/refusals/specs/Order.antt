@@ -48,5 +48,5 @@ all_tests (c ∷ cs) = c ++ all_tests cs
 -- A CALL'S NUMBER IS GIVEN IN THE TABLE'S ORDER. A call has one chain; one that looks at two sectors, the second once the first
 -- is accepted, has a chain for each
 pub record InOrder (chains : List (List Test)) (number : ℕ) : Type 0 where
-  pub by-table : all_ordered chains ≡ true
+  pub by_table : all_ordered chains ≡ true
   pub given : number ≡ first_of (all_tests chains)

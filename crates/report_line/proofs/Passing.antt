@@ -151,13 +151,13 @@ sum_in_row g (b ∷ bs) = total_append (λ (x : ℕ). x) (g b) (in_arow (map g b
 -- ---- the record
 
 module _ (start : ℕ) (ls : List (List ℕ)) (plain : Plain ls) where
-  pub tally-of-fits : (n : ℕ) → TallyFits (length ls) (tally_of start n ls)
+  pub tally_of_fits : (n : ℕ) → TallyFits (length ls) (tally_of start n ls)
   unfolding tally_of filler_in
-  tally-of-fits n = record { adds = adds_up start n ls; filler = total_bound (filler_of (layout_of n)) 2048 (filler_bound (layout_of n)) ls plain }
+  tally_of_fits n = record { adds = adds_up start n ls; filler = total_bound (filler_of (layout_of n)) 2048 (filler_bound (layout_of n)) ls plain }
 
-  pub channel-of-fits : (c : ℕ) → 1 ≤ c → c ≤ 4 → ChannelFits (length ls) (channel_of (pixels_in start c ls))
+  pub channel_of_fits : (c : ℕ) → 1 ≤ c → c ≤ 4 → ChannelFits (length ls) (channel_of (pixels_in start c ls))
   unfolding channel_of pixels_in
-  channel-of-fits c lo hi =
+  channel_of_fits c lo hi =
       record {
         count = rw (length_in_row (ir_pixels start c) ls) (total_bound (λ (b : List ℕ). length (ir_pixels start c b)) 2291 (λ b h. (ir_few start c b lo hi h).short) ls plain);
         sum = rw (sum_in_row (ir_pixels start c) ls)
@@ -165,14 +165,14 @@ module _ (start : ℕ) (ls : List (List ℕ)) (plain : Plain ls) where
             (λ b h. let f = ir_few start c b lo hi h in let s = sum_bound (ir_pixels start c b) f.small in let l = f.short in omega arith) ls plain);
       }
 
-  pub report-possible : length ls ≤ most_lines → Possible (report_by start ls)
+  pub report_possible : length ls ≤ most_lines → Possible (report_by start ls)
   unfolding report_by
-  report-possible most =
+  report_possible most =
       record {
         most = most;
-        tally = λ i p. subst (λ (t : Tally). TallyFits (length ls) t) (sym (row_at (λ (j : ℕ). tally_of start (suc j) ls) 12 i no_tally p)) (tally-of-fits (suc i));
-        channel = λ i p. subst (λ (c : Channel). ChannelFits (length ls) c) (sym (row_at (λ (j : ℕ). channel_of (pixels_in start (suc j) ls)) 4 i no_channel p)) (channel-of-fits (suc i) (omega arith) (omega arith));
+        tally = λ i p. subst (λ (t : Tally). TallyFits (length ls) t) (sym (row_at (λ (j : ℕ). tally_of start (suc j) ls) 12 i no_tally p)) (tally_of_fits (suc i));
+        channel = λ i p. subst (λ (c : Channel). ChannelFits (length ls) c) (sym (row_at (λ (j : ℕ). channel_of (pixels_in start (suc j) ls)) 4 i no_channel p)) (channel_of_fits (suc i) (omega arith) (omega arith));
       }
 
-  pub report-passes : length ls ≤ most_lines → possible_report (report_by start ls) ≡ true
-  report-passes most = possible_made (report_by start ls) (report-possible most)
+  pub report_passes : length ls ≤ most_lines → possible_report (report_by start ls) ≡ true
+  report_passes most = possible_made (report_by start ls) (report_possible most)

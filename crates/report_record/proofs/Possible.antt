@@ -97,22 +97,22 @@ module _ (r : Report) where
   unfolding record_refusal when
   refuses e = rw e refl
 
-  pub record-over : most_lines < r.lines → 12 ≡ record_refusal r
+  pub record_over : most_lines < r.lines → 12 ≡ record_refusal r
   unfolding possible_report
-  record-over h = refuses (and_fails_left (leb r.lines most_lines) (sectors_sound r && channels_sound r) (lt-leb r.lines most_lines h))
+  record_over h = refuses (and_fails_left (leb r.lines most_lines) (sectors_sound r && channels_sound r) (lt-leb r.lines most_lines h))
 
-  pub record-sectors : sectors_sound r ≡ false → 12 ≡ record_refusal r
+  pub record_sectors : sectors_sound r ≡ false → 12 ≡ record_refusal r
   unfolding possible_report
-  record-sectors e =
+  record_sectors e =
       refuses (and_fails (leb r.lines most_lines) (sectors_sound r && channels_sound r) (and_fails_left (sectors_sound r) (channels_sound r) e))
 
-  pub record-channels : channels_sound r ≡ false → 12 ≡ record_refusal r
+  pub record_channels : channels_sound r ≡ false → 12 ≡ record_refusal r
   unfolding possible_report
-  record-channels e = refuses (and_fails (leb r.lines most_lines) (sectors_sound r && channels_sound r) (and_fails (sectors_sound r) (channels_sound r) e))
+  record_channels e = refuses (and_fails (leb r.lines most_lines) (sectors_sound r && channels_sound r) (and_fails (sectors_sound r) (channels_sound r) e))
 
-  pub record-passed : r.lines ≤ most_lines → sectors_sound r ≡ true → channels_sound r ≡ true → 0 ≡ record_refusal r
+  pub record_passed : r.lines ≤ most_lines → sectors_sound r ≡ true → channels_sound r ≡ true → 0 ≡ record_refusal r
   unfolding possible_report
-  record-passed h s d =
+  record_passed h s d =
       sym (record_passes r (and_both (leb r.lines most_lines) (sectors_sound r && channels_sound r) (le-leb r.lines most_lines h) (and_both (sectors_sound r) (channels_sound r) s d)))
 
 -- two possible records may be added

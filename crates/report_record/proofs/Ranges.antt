@@ -61,15 +61,15 @@ unfolding Says Among
 says_more x xs Absent e =
     let gone : (y : ℕ) → Among y xs → ⊥ = λ y m. subst (λ (l : List ℕ). Among y l) e m in
     record {
-      least-in = inl refl;
-      largest-in = inl refl;
+      least_in = inl refl;
+      largest_in = inl refl;
       least = λ y m. ⊎_elim (λ (h : y ≡ x). omega arith) (λ (w : Among y xs). absurd (gone y w)) m;
       largest = λ y m. ⊎_elim (λ (h : y ≡ x). omega arith) (λ (w : Among y xs). absurd (gone y w)) m;
     }
 says_more x xs (From l h) b =
     record {
-      least-in = lesser_in x l xs b.least-in;
-      largest-in = greater_in x h xs b.largest-in;
+      least_in = lesser_in x l xs b.least_in;
+      largest_in = greater_in x h xs b.largest_in;
       least = λ y m. ⊎_elim (λ (e : y ≡ x). omega arith) (λ (w : Among y xs). omega (arith, b.least y w)) m;
       largest = λ y m. ⊎_elim (λ (e : y ≡ x). omega arith) (λ (w : Among y xs). omega (arith, b.largest y w)) m;
     }
@@ -82,7 +82,7 @@ range_says (x ∷ xs) = says_more x xs (range_of xs) (range_says xs)
 -- and no other range does
 none_in : (lo hi : ℕ) → Bounds [] lo hi → ⊥
 unfolding Among
-none_in lo hi b = b.least-in
+none_in lo hi b = b.least_in
 
 pub says_only : (xs : List ℕ) (r s : Range) → Says xs r → Says xs s → r ≡ s
 unfolding Says
@@ -90,10 +90,10 @@ says_only xs Absent Absent p q = refl
 says_only xs Absent (From l h) p q = absurd (none_in l h (subst (λ (k : List ℕ). Bounds k l h) p q))
 says_only xs (From l h) Absent p q = absurd (none_in l h (subst (λ (k : List ℕ). Bounds k l h) q p))
 says_only xs (From l h) (From m g) p q =
-    let a : l ≤ m = p.least m q.least-in in
-    let b : m ≤ l = q.least l p.least-in in
-    let c : h ≤ g = q.largest h p.largest-in in
-    let d : g ≤ h = p.largest g q.largest-in in
+    let a : l ≤ m = p.least m q.least_in in
+    let b : m ≤ l = q.least l p.least_in in
+    let c : h ≤ g = q.largest h p.largest_in in
+    let d : g ≤ h = p.largest g q.largest_in in
     from_same (omega arith) (omega arith)
 
 pub range_exactly : (xs : List ℕ) (r : Range) → (range_of xs ≡ r) ↔ Says xs r

@@ -15,19 +15,19 @@ use Rattle.report_record.specs.Sums.{row_of, all_of}
 -- ---- rows
 
 module _ {A : Type 0} where
-  pub length-row : (g : ℕ → A) (k : ℕ) → length (row_of g k) ≡ k
+  pub length_row : (g : ℕ → A) (k : ℕ) → length (row_of g k) ≡ k
   unfolding row_of
-  length-row g zero = refl
-  length-row g (suc k) = length-append (row_of g k) (g k ∷ []) ∙ ap (λ (n : ℕ). n + 1) (length-row g k) ∙ add-one k
+  length_row g zero = refl
+  length_row g (suc k) = length-append (row_of g k) (g k ∷ []) ∙ ap (λ (n : ℕ). n + 1) (length_row g k) ∙ add-one k
 
-  pub row-none : (g : ℕ → A) (xs : List A) → take 0 xs ≡ row_of g 0
+  pub row_none : (g : ℕ → A) (xs : List A) → take 0 xs ≡ row_of g 0
   unfolding row_of
-  row-none g xs = refl
+  row_none g xs = refl
 
   -- THE TURN of a loop that fills an array
-  pub row-turn : (g : ℕ → A) (xs : List A) (i : ℕ) (v : A) → take i xs ≡ row_of g i → v ≡ g i → i < length xs → take (i + 1) (set xs i v) ≡ row_of g (i + 1)
+  pub row_turn : (g : ℕ → A) (xs : List A) (i : ℕ) (v : A) → take i xs ≡ row_of g i → v ≡ g i → i < length xs → take (i + 1) (set xs i v) ≡ row_of g (i + 1)
   unfolding row_of
-  row-turn g xs i v e h p = rw add-one (take-suc-set xs i v p ∙ ap₂ (λ (l : List A) (x : A). l ++ (x ∷ [])) e h)
+  row_turn g xs i v e h p = rw add-one (take-suc-set xs i v p ∙ ap₂ (λ (l : List A) (x : A). l ++ (x ∷ [])) e h)
 
   pub row_done : (g : ℕ → A) (xs : List A) (k i : ℕ) → take i xs ≡ row_of g i → i ≡ k → length xs ≡ k → xs ≡ row_of g k
   row_done g xs k i e h l = sym (take_all k xs (omega arith)) ∙ subst (λ (j : ℕ). take j xs ≡ row_of g j) h e
@@ -40,11 +40,11 @@ module _ {A : Type 0} where
       by : (t : Bool) → eqb i k ≡ t → (i < k → get_or (row_of g k) i d ≡ g i) → get_or (row_of g k ++ (g k ∷ [])) i d ≡ g i
       by true e earlier =
           let z : i ≡ k = eqb-true i k e in
-          subst (λ (j : ℕ). get_or (row_of g k ++ (g k ∷ [])) j d ≡ g j) (sym z) (get_or_at (row_of g k) (g k) [] d k (length-row g k))
+          subst (λ (j : ℕ). get_or (row_of g k ++ (g k ∷ [])) j d ≡ g j) (sym z) (get_or_at (row_of g k) (g k) [] d k (length_row g k))
       by false e earlier =
           let ne : (i ≡ k → ⊥) = eqb-false i k e in
           let q : i < k = omega arith in
-          let l : i < length (row_of g k) = subst (λ (n : ℕ). i < n) (sym (length-row g k)) q in
+          let l : i < length (row_of g k) = subst (λ (n : ℕ). i < n) (sym (length_row g k)) q in
           get_or-append (row_of g k) (g k ∷ []) d i l ∙ earlier q
 
   pub row_same : (g h : ℕ → A) (k : ℕ) → ((i : ℕ) → i < k → g i ≡ h i) → row_of g k ≡ row_of h k
@@ -52,14 +52,14 @@ module _ {A : Type 0} where
   row_same g h zero e = refl
   row_same g h (suc k) e = ap₂ (λ (l : List A) (x : A). l ++ (x ∷ [])) (row_same g h k (λ i p. e i (omega arith))) (e k (omega arith))
 
-  row-front : (xs : List A) (d : A) (j : ℕ) → j ≤ length xs → take j xs ≡ row_of (λ (i : ℕ). get_or xs i d) j
+  row_front : (xs : List A) (d : A) (j : ℕ) → j ≤ length xs → take j xs ≡ row_of (λ (i : ℕ). get_or xs i d) j
   unfolding row_of
-  row-front xs d zero p = refl
-  row-front xs d (suc j) p = take-suc xs j d p ∙ ap (λ (l : List A). l ++ (get_or xs j d ∷ [])) (row-front xs d j (omega arith))
+  row_front xs d zero p = refl
+  row_front xs d (suc j) p = take-suc xs j d p ∙ ap (λ (l : List A). l ++ (get_or xs j d ∷ [])) (row_front xs d j (omega arith))
 
   -- a list of k elements is the row of them
   pub row_list : (xs : List A) (k : ℕ) (d : A) → length xs ≡ k → row_of (λ (i : ℕ). get_or xs i d) k ≡ xs
-  row_list xs k d l = sym (row_done (λ (i : ℕ). get_or xs i d) xs k k (row-front xs d k (omega arith)) refl l)
+  row_list xs k d l = sym (row_done (λ (i : ℕ). get_or xs i d) xs k k (row_front xs d k (omega arith)) refl l)
 
 -- ---- tests
 

@@ -60,8 +60,8 @@ Among x (y ∷ ys) = (x ≡ y) ⊎ Among x ys
 
 -- ATTAINED BOUNDS: the least and the largest are among the numbers, and no number is below or above them
 pub record Bounds (xs : List ℕ) (lo hi : ℕ) : Type 0 where
-  pub least-in : Among lo xs
-  pub largest-in : Among hi xs
+  pub least_in : Among lo xs
+  pub largest_in : Among hi xs
   pub least : (x : ℕ) → Among x xs → lo ≤ x
   pub largest : (x : ℕ) → Among x xs → x ≤ hi
 

@@ -47,22 +47,22 @@ remembered_own n a c = by (started a) refl
 
 module _ (a : Assembly) (carried : Revisions) where
   module _ (n : ℕ) where
-    pub none-stored : a.marks.segments ≡ 0 → 0 ≡ foreign_refusal n a carried
+    pub none_stored : a.marks.segments ≡ 0 → 0 ≡ foreign_refusal n a carried
     unfolding foreign_refusal foreign started when
-    none-stored e = rw (eq-eqb a.marks.segments 0 e)
+    none_stored e = rw (eq-eqb a.marks.segments 0 e)
 
-    pub of-its-own : (own other : ℕ) → own ≡ revision_of n a.revisions → other ≡ revision_of n carried → (a.marks.segments ≡ 0 → ⊥) → own ≡ other → 0 ≡ foreign_refusal n a carried
+    pub of_its_own : (own other : ℕ) → own ≡ revision_of n a.revisions → other ≡ revision_of n carried → (a.marks.segments ≡ 0 → ⊥) → own ≡ other → 0 ≡ foreign_refusal n a carried
     unfolding foreign_refusal foreign started when
-    of-its-own own other p q some e = rw (ne_eqb a.marks.segments 0 some, eq-eqb (revision_of n a.revisions) (revision_of n carried) (sym p ∙ e ∙ q)) refl
+    of_its_own own other p q some e = rw (ne_eqb a.marks.segments 0 some, eq-eqb (revision_of n a.revisions) (revision_of n carried) (sym p ∙ e ∙ q)) refl
 
-    pub of-another : (own other : ℕ) → own ≡ revision_of n a.revisions → other ≡ revision_of n carried → (a.marks.segments ≡ 0 → ⊥) → (own ≡ other → ⊥) → 14 ≡ foreign_refusal n a carried
+    pub of_another : (own other : ℕ) → own ≡ revision_of n a.revisions → other ≡ revision_of n carried → (a.marks.segments ≡ 0 → ⊥) → (own ≡ other → ⊥) → 14 ≡ foreign_refusal n a carried
     unfolding foreign_refusal
-    of-another own other p q some ne = sym (when_true (foreign n a carried) 14 ((foreign_when n a carried).1 (some, λ e. ne (p ∙ e ∙ sym q))))
+    of_another own other p q some ne = sym (when_true (foreign n a carried) 14 ((foreign_when n a carried).1 (some, λ e. ne (p ∙ e ∙ sym q))))
 
-  pub first-remembered : a.marks.segments ≡ 0 → carried ≡ remembered a carried
+  pub first_remembered : a.marks.segments ≡ 0 → carried ≡ remembered a carried
   unfolding started
-  first-remembered e = sym (remembered_new a carried (ap not (eq-eqb a.marks.segments 0 e)))
+  first_remembered e = sym (remembered_new a carried (ap not (eq-eqb a.marks.segments 0 e)))
 
-  pub still-remembered : (a.marks.segments ≡ 0 → ⊥) → a.revisions ≡ remembered a carried
+  pub still_remembered : (a.marks.segments ≡ 0 → ⊥) → a.revisions ≡ remembered a carried
   unfolding started
-  still-remembered some = sym (remembered_kept a carried (ap not (ne_eqb a.marks.segments 0 some)))
+  still_remembered some = sym (remembered_kept a carried (ap not (ne_eqb a.marks.segments 0 some)))

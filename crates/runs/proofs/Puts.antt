@@ -57,21 +57,21 @@ module _ (s s' s'' : List ℕ) (from k m : ℕ) (fits : from + k + m ≤ 8 * len
       ∙ write_more (bits_of s) from t u k m l inside
 
   -- what lies behind the first write is still what it was
-  pub part-behind : (t : List ℕ) → length t ≡ k → Put s s' from k t → part s' (from + k) m ≡ part s (from + k) m
+  pub part_behind : (t : List ℕ) → length t ≡ k → Put s s' from k t → part s' (from + k) m ≡ part s (from + k) m
   unfolding part stretch
-  part-behind t l e =
+  part_behind t l e =
       let front : length (take from (bits_of s) ++ t) ≡ from + k =
       omega (arith, length-append (take from (bits_of s)) t, length-take-le from (bits_of s) (omega (arith, inside))) in
       ap (λ (b : List ℕ). take m (drop (from + k) b)) e
       ∙ ap (take m) (drop_at (take from (bits_of s) ++ t) (drop (from + k) (bits_of s)) (from + k) front)
 
   -- TWO RUNS, one behind the other, are one
-  pub mix-two : (place r r' : ℕ) → r' ≡ register_after k r → Put s s' from k (wire_of place r (part s from k))
+  pub mix_two : (place r r' : ℕ) → r' ≡ register_after k r → Put s s' from k (wire_of place r (part s from k))
       → Put s' s'' (from + k) m (wire_of (place + k) r' (part s' (from + k) m)) → Put s s'' from (k + m) (wire_of place r (part s from (k + m)))
-  mix-two place r r' er e f =
+  mix_two place r r' er e f =
       let l : length (part s from k) ≡ k = length_part s from k (omega arith) in
       let long : length (wire_of place r (part s from k)) ≡ k = length_wire place r (part s from k) ∙ l in
-      let behind : part s' (from + k) m ≡ part s (from + k) m = part-behind (wire_of place r (part s from k)) long e in
+      let behind : part s' (from + k) m ≡ part s (from + k) m = part_behind (wire_of place r (part s from k)) long e in
       let joined : wire_of place r (part s from (k + m)) ≡ wire_of place r (part s from k) ++ wire_of (place + k) r' (part s' (from + k) m) =
       ap (wire_of place r) (part_append s from k m)
       ∙ wire_append place r (part s from k) (part s (from + k) m)
@@ -98,7 +98,7 @@ mixed_byte {s} {s'} {first} {i} {place} {r} {r'} y r'' m h ey er =
     rw at at (byte_put s' q y here ∙ ap (λ (l : List ℕ). take (q * 8) (bits_of s') ++ l ++ drop (q * 8 + 8) (bits_of s')) (ey ∙ ap (wire_of (place + i * 8) r') (sym (byte_part s' q here)))) in
     record {
       long = length-set s' q y ∙ m.long;
-      put = rw next (mix-two s s' (set s' q y) (first * 8) (i * 8) 8 (omega arith) place r r' m.after m.put put');
+      put = rw next (mix_two s s' (set s' q y) (first * 8) (i * 8) 8 (omega arith) place r r' m.after m.put put');
       after = er ∙ ap (register_after 8) m.after ∙ sym (after_add (i * 8) 8 r) ∙ ap (λ (k : ℕ). register_after k r) (sym next);
     }
 
@@ -110,7 +110,7 @@ mixed_two {s} {s₁} {s₂} {first} {m} {n} {place} {r} {a} {o} fits e f =
     let all : m * 8 + n * 8 ≡ (m + n) * 8 = omega arith in
     record {
       long = f.long ∙ e.long;
-      put = rw all at (mix-two s s₁ s₂ (first * 8) (m * 8) (n * 8) (omega arith) place r a e.after e.put (rw at at f.put));
+      put = rw all at (mix_two s s₁ s₂ (first * 8) (m * 8) (n * 8) (omega arith) place r a e.after e.put (rw at at f.put));
       after = f.after ∙ ap (register_after (n * 8)) e.after ∙ sym (after_add (m * 8) (n * 8) r) ∙ ap (λ (k : ℕ). register_after k r) all;
     }
 
@@ -124,12 +124,12 @@ back_same : (n : ℕ) (xs ys xs' ys' : List ℕ) → length xs ≡ n → length 
 back_same n xs ys xs' ys' l l' e = sym (drop_at xs ys n l) ∙ ap (drop n) e ∙ drop_at xs' ys' n l'
 
 module _ (s s' : List ℕ) (q k place r : ℕ) (fits : q + k ≤ length s) (long : length s' ≡ length s) (put : Put s s' (q * 8) (k * 8) (wire_of place r (part s (q * 8) (k * 8)))) where
-  all-long : length (wire_of place r (part s (q * 8) (k * 8))) ≡ k * 8
-  all-long = length_wire place r (part s (q * 8) (k * 8)) ∙ length_part s (q * 8) (k * 8) (omega arith)
+  all_long : length (wire_of place r (part s (q * 8) (k * 8))) ≡ k * 8
+  all_long = length_wire place r (part s (q * 8) (k * 8)) ∙ length_part s (q * 8) (k * 8) (omega arith)
 
   -- a byte of them
-  pub mixed-at : (i : ℕ) → i < k → digits 8 (get_or s' (q + i) 0) ≡ wire_of (place + i * 8) (register_after (i * 8) r) (digits 8 (get_or s (q + i) 0))
-  mixed-at i h =
+  pub mixed_at : (i : ℕ) → i < k → digits 8 (get_or s' (q + i) 0) ≡ wire_of (place + i * 8) (register_after (i * 8) r) (digits 8 (get_or s (q + i) 0))
+  mixed_at i h =
       let rest : ℕ = (k - i - 1) * 8 in
       let cut : k * 8 ≡ i * 8 + (8 + rest) = omega arith in
       let at : q * 8 + i * 8 ≡ (q + i) * 8 = omega arith in
@@ -146,7 +146,7 @@ module _ (s s' : List ℕ) (q k place r : ℕ) (fits : q + k ≤ length s) (long
       ∙ wire_append place r a (b ++ c)
       ∙ ap (λ (n : ℕ). wire_of place r a ++ wire_of (place + n) (register_after n r) (b ++ c)) la
       ∙ ap (λ (l : List ℕ). wire_of place r a ++ l) (wire_append (place + i * 8) r' b c) in
-      let same = sym (split s') ∙ part_put s s' (q * 8) (k * 8) _ (omega arith) all-long put ∙ wires in
+      let same = sym (split s') ∙ part_put s s' (q * 8) (k * 8) _ (omega arith) all_long put ∙ wires in
       let x : List ℕ = wire_of (place + i * 8) r' b in
       let y : List ℕ = wire_of (place + i * 8 + length b) (register_after (length b) r') c in
       let a' : List ℕ = part s' (q * 8) (i * 8) in
@@ -159,9 +159,9 @@ module _ (s s' : List ℕ) (q k place r : ℕ) (fits : q + k ≤ length s) (long
       ∙ ap (wire_of (place + i * 8) r') (ap (λ (n : ℕ). part s n 8) at ∙ byte_part s (q + i) (omega arith))
 
   -- what lies before and behind them is kept
-  pub mixed-front : Below 256 s → Below 256 s' → take q s' ≡ take q s
+  pub mixed_front : Below 256 s → Below 256 s' → take q s' ≡ take q s
   unfolding bits_of
-  mixed-front b b' =
+  mixed_front b b' =
       let inside : q * 8 ≤ length (bits_of s) = rw length_bits (omega arith) in
       let front : length (take (q * 8) (bits_of s)) ≡ q * 8 = length-take-le (q * 8) (bits_of s) inside in
       let w : List ℕ = wire_of place r (part s (q * 8) (k * 8)) in
@@ -171,14 +171,14 @@ module _ (s s' : List ℕ) (q k place r : ℕ) (fits : q + k ≤ length s) (long
       ∙ take_at (take (q * 8) (bits_of s)) (w ++ drop (q * 8 + k * 8) (bits_of s)) (q * 8) front
       ∙ bits_take s q)
 
-  pub mixed-back : Below 256 s → Below 256 s' → drop (q + k) s' ≡ drop (q + k) s
+  pub mixed_back : Below 256 s → Below 256 s' → drop (q + k) s' ≡ drop (q + k) s
   unfolding bits_of
-  mixed-back b b' =
+  mixed_back b b' =
       let at : (q + k) * 8 ≡ q * 8 + k * 8 = omega arith in
       let inside : q * 8 ≤ length (bits_of s) = rw length_bits (omega arith) in
       let w : List ℕ = wire_of place r (part s (q * 8) (k * 8)) in
       let front : length (take (q * 8) (bits_of s) ++ w) ≡ q * 8 + k * 8 =
-      length-append (take (q * 8) (bits_of s)) w ∙ ap₂ (λ (m n : ℕ). m + n) (length-take-le (q * 8) (bits_of s) inside) all-long in
+      length-append (take (q * 8) (bits_of s)) w ∙ ap₂ (λ (m n : ℕ). m + n) (length-take-le (q * 8) (bits_of s) inside) all_long in
       packed_inj 8 (drop (q + k) s') (drop (q + k) s) (length-drop (q + k) s' ∙ ap (λ (n : ℕ). n - (q + k)) long ∙ sym (length-drop (q + k) s)) (below_drop 256 (q + k) s' b') (below_drop 256 (q + k) s b)
       (sym (bits_drop s' (q + k))
       ∙ ap₂ drop at put

@@ -15,10 +15,10 @@ use Rattle.scramble.specs.declared.StepBit.TheVariants.{Bit, Refused}
 
 pub a_step : Kind Refused Bit step_number step_bit 0
 a_step = record {
-  number-refused = λ n. refl;
-  number-given = λ b. refl;
-  value-refused = λ n. refl;
-  value-given = λ b. refl;
+  number_refused = λ n. refl;
+  number_given = λ b. refl;
+  value_refused = λ n. refl;
+  value_given = λ b. refl;
   apart = λ b e. let z : ◌≡◌ {A = ℕ} 0 1 = cc in let w : ⊥ = omega arith in w;
   either = each;
 }

@@ -12,25 +12,25 @@ use Rattle.sector_table.specs.declared.layout.Layout.{Layout}
 use Rattle.sector_check.specs.Sector.{covered_of, id_of, answer_of}
 
 module _ (start : ℕ) (l : Layout) (b : List ℕ) where
-  pub answer-five : (remainder_of start (covered_of l b) ≡ 0 → ⊥) → 5 ≡ answer_of start l b
+  pub answer_five : (remainder_of start (covered_of l b) ≡ 0 → ⊥) → 5 ≡ answer_of start l b
   unfolding answer_of first when
-  answer-five ne = rw (ne_eqb (remainder_of start (covered_of l b)) 0 ne)
+  answer_five ne = rw (ne_eqb (remainder_of start (covered_of l b)) 0 ne)
 
-  pub answer-six : remainder_of start (covered_of l b) ≡ 0 → (id_of l b ≡ l.id → ⊥) → 6 ≡ answer_of start l b
+  pub answer_six : remainder_of start (covered_of l b) ≡ 0 → (id_of l b ≡ l.id → ⊥) → 6 ≡ answer_of start l b
   unfolding answer_of first when
-  answer-six e ne = rw (eq-eqb (remainder_of start (covered_of l b)) 0 e, ne_eqb (id_of l b) l.id ne)
+  answer_six e ne = rw (eq-eqb (remainder_of start (covered_of l b)) 0 e, ne_eqb (id_of l b) l.id ne)
 
-  pub answer-none : remainder_of start (covered_of l b) ≡ 0 → id_of l b ≡ l.id → 0 ≡ answer_of start l b
+  pub answer_none : remainder_of start (covered_of l b) ≡ 0 → id_of l b ≡ l.id → 0 ≡ answer_of start l b
   unfolding answer_of first when
-  answer-none e own = rw (eq-eqb (remainder_of start (covered_of l b)) 0 e, eq-eqb (id_of l b) l.id own)
+  answer_none e own = rw (eq-eqb (remainder_of start (covered_of l b)) 0 e, eq-eqb (id_of l b) l.id own)
 
   -- accepted, or with the ID of another: nothing is left
-  pub answer-past : (answer_of start l b ≡ 5 → ⊥) → remainder_of start (covered_of l b) ≡ 0
-  answer-past ne = go (eqb (remainder_of start (covered_of l b)) 0) refl
+  pub answer_past : (answer_of start l b ≡ 5 → ⊥) → remainder_of start (covered_of l b) ≡ 0
+  answer_past ne = go (eqb (remainder_of start (covered_of l b)) 0) refl
     where
       go : (t : Bool) → eqb (remainder_of start (covered_of l b)) 0 ≡ t → remainder_of start (covered_of l b) ≡ 0
       go true e = eqb-true _ _ e
-      go false e = absurd (ne (sym (answer-five (eqb-false _ _ e))))
+      go false e = absurd (ne (sym (answer_five (eqb-false _ _ e))))
 
 -- as the code reads it
 pub id_part : (l : Layout) (s : List ℕ) → number_of (part s l.start l.id_bits) ≡ id_of l (bits_of s)

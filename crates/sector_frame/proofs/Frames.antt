@@ -121,15 +121,15 @@ module _ (start : ℕ) (l : Layout) (s b1 : List ℕ) (sound : Sound l) (line : 
   long : l.start + l.bits ≤ length (bits_of s)
   long = rw length_bits (ends l (length s) sound line)
 
-  pub data-laid : (bytes : List ℕ) → bytes_of l ≤ length bytes → b1 ≡ take (data_at l) (bits_of s) ++ data_written l bytes ++ drop (data_at l + l.data_bits) (bits_of s)
+  pub data_laid : (bytes : List ℕ) → bytes_of l ≤ length bytes → b1 ≡ take (data_at l) (bits_of s) ++ data_written l bytes ++ drop (data_at l + l.data_bits) (bits_of s)
       → sector_written start l (data_bits_of l b1) b1 ≡ sector_written start l (data_written l bytes) (bits_of s)
-  data-laid bytes room e = laid start l (bits_of s) b1 (data_written l bytes) sound long (length_data_written l bytes room) e
+  data_laid bytes room e = laid start l (bits_of s) b1 (data_written l bytes) sound long (length_data_written l bytes room) e
 
-  pub pixels-laid : (ps : List ℕ) → l.count ≤ length ps
+  pub pixels_laid : (ps : List ℕ) → l.count ≤ length ps
       → b1 ≡ take (data_at l) (bits_of s) ++ packed_of l.width (take l.count ps) ++ drop (data_at l + l.count * l.width) (bits_of s)
       → sector_written start l (data_bits_of l b1) b1 ≡ sector_written start l (pixels_written l ps) (bits_of s)
   unfolding pixels_written
-  pixels-laid ps room e =
+  pixels_laid ps room e =
       laid start l (bits_of s) b1 (pixels_written l ps) sound long (length_pixels_written l ps sound room)
       (e ∙ ap (λ (n : ℕ). take (data_at l) (bits_of s) ++ packed_of l.width (take l.count ps) ++ drop (data_at l + n) (bits_of s)) (sym sound.pixels))
 

@@ -15,7 +15,7 @@ use Rattle.division.proofs.Word.{checked}
 use Rattle.sector_table.specs.declared.layout.Layout.{Layout}
 use Rattle.sector_table.specs.Layout.{data_at, filler_at, covered_bits, check_bits, filler_bits, Sound}
 use Rattle.sector_check.specs.Sector.{covered_of, id_of, answer_of, filler_of, data_bits_of}
-use Rattle.sector_check.proofs.Answers.{answer-none}
+use Rattle.sector_check.proofs.Answers.{answer_none}
 use Rattle.sector_frame.specs.Written.{head_of, sector_of, sector_written}
 use Rattle.bits.proofs.Stretches.{piece}
 
@@ -48,45 +48,45 @@ module _ (start : ℕ) (l : Layout) (d b : List ℕ) (s : Sound l) (long : l.sta
   unfolding before
   length_before = length-take-le l.start b (omega arith)
 
-  length-head : length (head_of l d) ≡ l.id_bits + l.data_bits
+  length_head : length (head_of l d) ≡ l.id_bits + l.data_bits
   unfolding head_of
-  length-head = length-append (digits l.id_bits l.id) d ∙ ap₂ ◌+◌ (length_digits l.id_bits l.id) ld
+  length_head = length-append (digits l.id_bits l.id) d ∙ ap₂ ◌+◌ (length_digits l.id_bits l.id) ld
 
-  length-word : length word ≡ check_bits
+  length_word : length word ≡ check_bits
   unfolding word
-  length-word = length_digits check_bits (check_word_of start (head_of l d))
+  length_word = length_digits check_bits (check_word_of start (head_of l d))
 
-  pub length-sector : length (sector_of start l d) ≡ l.bits
+  pub length_sector : length (sector_of start l d) ≡ l.bits
   unfolding sector_of word
-  length-sector =
+  length_sector =
       length-append (head_of l d) (word ++ replicate filler_bits 0)
-      ∙ omega (arith, length-head, length-append word (replicate filler_bits 0), length-word, length-replicate {A = ℕ} filler_bits 0, s.whole)
+      ∙ omega (arith, length_head, length-append word (replicate filler_bits 0), length_word, length-replicate {A = ℕ} filler_bits 0, s.whole)
 
-  pub covered-back : covered_of l (sector_written start l d b) ≡ head_of l d ++ digits check_bits (check_word_of start (head_of l d))
+  pub covered_back : covered_of l (sector_written start l d b) ≡ head_of l d ++ digits check_bits (check_word_of start (head_of l d))
   unfolding covered_of sector_written sector_of before behind word
-  covered-back =
+  covered_back =
       piece before (head_of l d ++ word) (replicate filler_bits 0 ++ behind) (sector_written start l d b) l.start (covered_bits l)
       (flat before (head_of l d) word (replicate filler_bits 0) behind) length_before
-      (length-append (head_of l d) word ∙ ap₂ ◌+◌ length-head length-word)
+      (length-append (head_of l d) word ∙ ap₂ ◌+◌ length_head length_word)
 
-  pub id-back : id_of l (sector_written start l d b) ≡ l.id
+  pub id_back : id_of l (sector_written start l d b) ≡ l.id
   unfolding id_of sector_written sector_of head_of before behind id word
-  id-back =
+  id_back =
       ap number_of (piece before id (d ++ ((word ++ replicate filler_bits 0) ++ behind)) (sector_written start l d b) l.start l.id_bits
       (id_first before id d word (replicate filler_bits 0) behind) length_before (length_digits l.id_bits l.id))
-      ∙ number_digits l.id_bits l.id ∙ mod-eq_of_lt s.id-fits
+      ∙ number_digits l.id_bits l.id ∙ mod-eq_of_lt s.id_fits
 
   -- ACCEPTED
-  pub written-accepted : answer_of start l (sector_written start l d b) ≡ 0
-  written-accepted = sym (answer-none start l (sector_written start l d b) (ap (remainder_of start) covered-back ∙ checked start (head_of l d)) id-back)
+  pub written_accepted : answer_of start l (sector_written start l d b) ≡ 0
+  written_accepted = sym (answer_none start l (sector_written start l d b) (ap (remainder_of start) covered_back ∙ checked start (head_of l d)) id_back)
 
   -- NO FILLER BIT SET
-  pub written-filler : filler_of l (sector_written start l d b) ≡ 0
+  pub written_filler : filler_of l (sector_written start l d b) ≡ 0
   unfolding filler_of sector_written sector_of before behind word
-  written-filler =
+  written_filler =
       ap set_bits (piece ((before ++ head_of l d) ++ word) (replicate filler_bits 0) behind (sector_written start l d b) (filler_at l) filler_bits
       (filler_last before (head_of l d) word (replicate filler_bits 0) behind)
-      (omega (arith, length-append (before ++ head_of l d) word, length-append before (head_of l d), length_before, length-head, length-word))
+      (omega (arith, length-append (before ++ head_of l d) word, length-append before (head_of l d), length_before, length_head, length_word))
       (length-replicate {A = ℕ} filler_bits 0))
       ∙ set_zeros filler_bits
 

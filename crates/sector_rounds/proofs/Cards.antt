@@ -21,7 +21,7 @@ use Rattle.sector_table.specs.Layout.{layout_of, covered_bits, Sound}
 use Rattle.sector_check.specs.Sector.{covered_of, answer_of, answers_of}
 use Rattle.sectors.specs.Calls.{accepted_answer, answers_refusal, answers_answer}
 use Rattle.sector_table.proofs.Admitted.{Admitted, admitted, admits}
-use Rattle.sector_check.proofs.Answers.{answer-five, answer-past}
+use Rattle.sector_check.proofs.Answers.{answer_five, answer_past}
 use Rattle.sector_check.proofs.Each.{length_answers}
 use Rattle.sectors.proofs.AtOnce.{refused_alike, at_once}
 use Rattle.sector_table.proofs.Table.{sound}
@@ -32,7 +32,7 @@ use Rattle.sector_table.proofs.Table.{sound}
 pub other_start : (s t : ℕ) → (s % 2 ^ 16 ≡ t % 2 ^ 16 → ⊥) → (l : Layout) (b : List ℕ) → 16 ≤ length (covered_of l b) → Below 2 (covered_of l b)
     → (answer_of s l b ≡ 5 → ⊥) → answer_of t l b ≡ 5
 other_start s t differ l b long bits past =
-    sym (answer-five t l b (λ none. differ (only_start s t (covered_of l b) long bits (answer-past s l b past ∙ sym none))))
+    sym (answer_five t l b (λ none. differ (only_start s t (covered_of l b) long bits (answer_past s l b past ∙ sym none))))
 
 covered_length : (n : ℕ) (line : List ℕ) → 1 ≤ n → n ≤ 12 → line_bytes ≤ length line → length (covered_of (layout_of n) (bits_of line)) ≡ covered_bits (layout_of n)
 unfolding covered_of
@@ -51,9 +51,9 @@ module _ (f g : ℕ) (known : format_refusal g ≡ 0) (differ : check_start f �
   apart e = differ (sym (mod-eq_of_lt (start_lt f)) ∙ e ∙ mod-eq_of_lt (start_lt g))
 
   -- ACCEPTED IN ONE FORMAT, 5 IN THE OTHER
-  pub other-card : (n : ℕ) (line : List ℕ) → accepted_answer f line n ≡ 0 → accepted_answer g line n ≡ 5
+  pub other_card : (n : ℕ) (line : List ℕ) → accepted_answer f line n ≡ 0 → accepted_answer g line n ≡ 5
   unfolding accepted_answer
-  other-card n line e =
+  other_card n line e =
       let own : ℕ = answer_of (check_start f) (layout_of n) (bits_of line) in
       let a : Admitted 1 12 n (length line) = admitted f 1 12 n (length line) (none_first (line_refusal f 1 12 n (length line)) own e) in
       let good : own ≡ 0 = none_second (line_refusal f 1 12 n (length line)) own e in
@@ -64,12 +64,12 @@ module _ (f g : ℕ) (known : format_refusal g ≡ 0) (differ : check_start f �
 
   -- so it is never accepted in both
   pub never_both : (n : ℕ) (line : List ℕ) → accepted_answer f line n ≡ 0 → accepted_answer g line n ≡ 0 → ⊥
-  never_both n line e h = let z : ◌≡◌ {A = ℕ} 0 5 = sym h ∙ other-card n line e in let w : ⊥ = omega arith in w
+  never_both n line e h = let z : ◌≡◌ {A = ℕ} 0 5 = sym h ∙ other_card n line e in let w : ⊥ = omega arith in w
 
   -- TWELVE FIVES: a line of which all sectors are accepted in the one format
-  pub twelve-fives : (line : List ℕ) → ((n : ℕ) → 1 ≤ n → n ≤ 12 → accepted_answer f line n ≡ 0) → answers_answer g line ≡ record { refused = 0; answers = replicate 12 5 }
+  pub twelve_fives : (line : List ℕ) → ((n : ℕ) → 1 ≤ n → n ≤ 12 → accepted_answer f line n ≡ 0) → answers_answer g line ≡ record { refused = 0; answers = replicate 12 5 }
   unfolding answers_answer accepted_answer
-  twelve-fives line all =
+  twelve_fives line all =
       let b : List ℕ = bits_of line in
       let a : Admitted 1 12 1 (length line) = admitted f 1 12 1 (length line) (none_first (line_refusal f 1 12 1 (length line)) _ (all 1 (omega arith) (omega arith))) in
       let served : answers_refusal g (length line) ≡ 0 = refused_alike g 1 (length line) (omega arith) (omega arith) ∙ admits g 1 12 1 (length line) known (omega arith) (omega arith) a.long in
@@ -84,4 +84,4 @@ module _ (f g : ℕ) (known : format_refusal g ≡ 0) (differ : check_start f �
           let place : i ≡ i + 1 - 1 = omega arith in
           let low : 1 ≤ i + 1 = omega arith in
           let high : i + 1 ≤ 12 = omega arith in
-          ap (λ (k : ℕ). get_or (answers_answer g line).answers k 0) place ∙ at_once g (i + 1) line low high served ∙ other-card (i + 1) line (all (i + 1) low high)
+          ap (λ (k : ℕ). get_or (answers_answer g line).answers k 0) place ∙ at_once g (i + 1) line low high served ∙ other_card (i + 1) line (all (i + 1) low high)

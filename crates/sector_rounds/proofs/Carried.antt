@@ -20,12 +20,12 @@ use Rattle.sector_frame.specs.Written.{sector_of, sector_written, data_written, 
 use Rattle.sector_frame.proofs.Frames.{length_data_written, length_pixels_written}
 use Rattle.write_refusals.specs.Refusing.{put_data_answer, put_pixels_answer}
 use Rattle.sector_writer.specs.Calls.{put_data_left, put_pixels_left}
-use Rattle.write_refusals.proofs.Writable.{Writable, data_writable, pixels-writable, pixels-fit}
+use Rattle.write_refusals.proofs.Writable.{Writable, data_writable, pixels_writable, pixels_fit}
 use Rattle.sector_rounds.specs.Cleared.{cleared_of}
 use Rattle.sector_rounds.specs.Puts as puts
 use Rattle.sector_rounds.specs.Puts.{Put, Data, Pixels, Wide, Fits, put_answer, put_left, Holds}
-use Rattle.sector_rounds.proofs.Back.{written-accepted, written-filler}
-use Rattle.sector_rounds.proofs.RoundTrip.{data-back, pixels-back}
+use Rattle.sector_rounds.proofs.Back.{written_accepted, written_filler}
+use Rattle.sector_rounds.proofs.RoundTrip.{data_back, pixels_back}
 use Rattle.sector_rounds.proofs.Others.{length_front, Alike, others}
 
 -- ---- what a call puts
@@ -78,20 +78,20 @@ data_wrote f n bytes line b e left =
     let s = sound n h.low h.high in
     let d : List ℕ = data_written (layout_of n) bytes in
     let is : b ≡ sector_written (check_start f) (layout_of n) d (bits_of line) = left ∙ kept_none (put_data_answer f (length line) n (length bytes)) (bits_of line) _ e in (
-      record { known = known_format f 1 12 n _ e; low = h.low; high = h.high; full = h.long; bits = d; long = length_data_written (layout_of n) bytes h.given-all; is = is },
-      λ small. ap (data_of (layout_of n)) is ∙ data-back (check_start f) (layout_of n) (bits_of line) s (room n line s h.long) bytes h.given-all small,
+      record { known = known_format f 1 12 n _ e; low = h.low; high = h.high; full = h.long; bits = d; long = length_data_written (layout_of n) bytes h.given_all; is = is },
+      λ small. ap (data_of (layout_of n)) is ∙ data_back (check_start f) (layout_of n) (bits_of line) s (room n line s h.long) bytes h.given_all small,
     )
 
 pixels_wrote : (lo hi f n : ℕ) (ps line b : List ℕ) → 1 ≤ lo → hi ≤ 12 → put_pixels_answer lo hi f (length line) n ps ≡ 0 → b ≡ put_pixels_left lo hi f line n ps
     → Wrote lo hi f n line b × (pixels_of (layout_of n) b ≡ take (layout_of n).count ps)
 unfolding put_pixels_left put_pixels_answer
 pixels_wrote lo hi f n ps line b one top e left =
-    let h : Writable lo hi n (length line) (length ps) (layout_of n).count = pixels-writable lo hi f (length line) n ps e in
+    let h : Writable lo hi n (length line) (length ps) (layout_of n).count = pixels_writable lo hi f (length line) n ps e in
     let s = sound n (omega (arith, h.low)) (omega (arith, h.high)) in
     let d : List ℕ = pixels_written (layout_of n) ps in
     let is : b ≡ sector_written (check_start f) (layout_of n) d (bits_of line) = left ∙ kept_none (put_pixels_answer lo hi f (length line) n ps) (bits_of line) _ e in (
-      record { known = known_format f lo hi n _ e; low = h.low; high = h.high; full = h.long; bits = d; long = length_pixels_written (layout_of n) ps s h.given-all; is = is },
-      ap (pixels_of (layout_of n)) is ∙ pixels-back (check_start f) (layout_of n) (bits_of line) s (room n line s h.long) ps h.given-all (pixels-fit lo hi f (length line) n ps e),
+      record { known = known_format f lo hi n _ e; low = h.low; high = h.high; full = h.long; bits = d; long = length_pixels_written (layout_of n) ps s h.given_all; is = is },
+      ap (pixels_of (layout_of n)) is ∙ pixels_back (check_start f) (layout_of n) (bits_of line) s (room n line s h.long) ps h.given_all (pixels_fit lo hi f (length line) n ps e),
     )
 
 put_wrote : (f n : ℕ) (w : Put) (line b : List ℕ) → put_answer f line n w ≡ 0 → b ≡ put_left f line n w → Wrote (low_of w) (high_of w) f n line b × (Fits w → Gives n w b)
@@ -142,8 +142,8 @@ wrote_carries f n w line b h g =
       known = h.known;
       low = h.low;
       high = h.high;
-      answer = ap (answer_of (check_start f) l) h.is ∙ written-accepted (check_start f) l h.bits (bits_of line) s r h.long;
-      filler = ap (filler_of l) h.is ∙ written-filler (check_start f) l h.bits (bits_of line) s r h.long;
+      answer = ap (answer_of (check_start f) l) h.is ∙ written_accepted (check_start f) l h.bits (bits_of line) s r h.long;
+      filler = ap (filler_of l) h.is ∙ written_filler (check_start f) l h.bits (bits_of line) s r h.long;
       gives = g;
     }
 

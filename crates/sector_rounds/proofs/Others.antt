@@ -18,7 +18,7 @@ use Rattle.sector_table.specs.Layout.{layout_of, data_at, filler_at, covered_bit
 use Rattle.sector_check.specs.Sector.{covered_of, id_of, answer_of, filler_of, data_bits_of, data_of, pixels_of}
 use Rattle.sector_table.proofs.Table.{sound, before}
 use Rattle.sector_frame.specs.Written.{sector_of, sector_written}
-use Rattle.sector_rounds.proofs.Back.{length-sector}
+use Rattle.sector_rounds.proofs.Back.{length_sector}
 
 front : (a r : List ℕ) (p n : ℕ) → p + n ≤ length a → stretch (a ++ r) p n ≡ stretch a p n
 unfolding stretch
@@ -46,20 +46,20 @@ drop_behind b f e p lf h =
 module _ (start : ℕ) (l : Layout) (d b : List ℕ) (s : Sound l) (long : l.start + l.bits ≤ length b) (ld : length d ≡ l.data_bits) where
   pub length_front : length (take l.start b ++ sector_of start l d) ≡ l.start + l.bits
   length_front =
-      length-append (take l.start b) (sector_of start l d) ∙ ap₂ ◌+◌ (length-take-le l.start b (omega arith)) (length-sector start l d b s long ld)
+      length-append (take l.start b) (sector_of start l d) ∙ ap₂ ◌+◌ (length-take-le l.start b (omega arith)) (length_sector start l d b s long ld)
 
   -- BITS PAST THE LINE, and past the sector, stay
-  pub past-kept : (p : ℕ) → l.start + l.bits ≤ p → drop p (sector_written start l d b) ≡ drop p b
+  pub past_kept : (p : ℕ) → l.start + l.bits ≤ p → drop p (sector_written start l d b) ≡ drop p b
   unfolding sector_written
-  past-kept p h = drop_behind b (take l.start b ++ sector_of start l d) (l.start + l.bits) p length_front h
+  past_kept p h = drop_behind b (take l.start b ++ sector_of start l d) (l.start + l.bits) p length_front h
 
-  kept-before : (p n : ℕ) → p + n ≤ l.start → stretch (sector_written start l d b) p n ≡ stretch b p n
+  kept_before : (p n : ℕ) → p + n ≤ l.start → stretch (sector_written start l d b) p n ≡ stretch b p n
   unfolding sector_written
-  kept-before p n h = stretch_before b (sector_of start l d) (drop (l.start + l.bits) b) l.start p n h (omega arith)
+  kept_before p n h = stretch_before b (sector_of start l d) (drop (l.start + l.bits) b) l.start p n h (omega arith)
 
-  kept-behind : (p n : ℕ) → l.start + l.bits ≤ p → stretch (sector_written start l d b) p n ≡ stretch b p n
+  kept_behind : (p n : ℕ) → l.start + l.bits ≤ p → stretch (sector_written start l d b) p n ≡ stretch b p n
   unfolding stretch
-  kept-behind p n h = ap (take n) (past-kept p h)
+  kept_behind p n h = ap (take n) (past_kept p h)
 
 -- ---- what is read of a sector goes by its bits
 
@@ -98,26 +98,26 @@ module _ (start m n : ℕ) (d b : List ℕ) (lm : 1 ≤ m) (hm : m ≤ 12) (ln :
       by true e =
           let less : m < n = ltb-true m n e in
           let ends : (layout_of m).start + (layout_of m).bits ≤ (layout_of n).start = before m n lm less hn in
-          kept-before start (layout_of n) d b here room ld p k (omega arith)
+          kept_before start (layout_of n) d b here room ld p k (omega arith)
       by false e =
           let more : n ≤ m = ltb-false m n e in
           let less : n < m = omega (arith, other) in
           let ends : (layout_of n).start + (layout_of n).bits ≤ (layout_of m).start = before n m ln less hm in
-          kept-behind start (layout_of n) d b here room ld p k (omega arith)
+          kept_behind start (layout_of n) d b here room ld p k (omega arith)
 
-  pub other-answer : (from : ℕ) → answer_of from (layout_of m) (sector_written start (layout_of n) d b) ≡ answer_of from (layout_of m) b
-  other-answer from = same_answer from (layout_of m) b (sector_written start (layout_of n) d b) there apart
+  pub other_answer : (from : ℕ) → answer_of from (layout_of m) (sector_written start (layout_of n) d b) ≡ answer_of from (layout_of m) b
+  other_answer from = same_answer from (layout_of m) b (sector_written start (layout_of n) d b) there apart
 
-  pub other-filler : filler_of (layout_of m) (sector_written start (layout_of n) d b) ≡ filler_of (layout_of m) b
-  other-filler = same_filler (layout_of m) b (sector_written start (layout_of n) d b) there apart
+  pub other_filler : filler_of (layout_of m) (sector_written start (layout_of n) d b) ≡ filler_of (layout_of m) b
+  other_filler = same_filler (layout_of m) b (sector_written start (layout_of n) d b) there apart
 
-  pub other-data : data_of (layout_of m) (sector_written start (layout_of n) d b) ≡ data_of (layout_of m) b
+  pub other_data : data_of (layout_of m) (sector_written start (layout_of n) d b) ≡ data_of (layout_of m) b
   unfolding data_of
-  other-data = ap (λ (t : List ℕ). fields_of 8 (bytes_of (layout_of m)) (t ++ replicate (spare_of (layout_of m)) 0)) (same_bits (layout_of m) b (sector_written start (layout_of n) d b) there apart)
+  other_data = ap (λ (t : List ℕ). fields_of 8 (bytes_of (layout_of m)) (t ++ replicate (spare_of (layout_of m)) 0)) (same_bits (layout_of m) b (sector_written start (layout_of n) d b) there apart)
 
-  pub other-pixels : pixels_of (layout_of m) (sector_written start (layout_of n) d b) ≡ pixels_of (layout_of m) b
+  pub other_pixels : pixels_of (layout_of m) (sector_written start (layout_of n) d b) ≡ pixels_of (layout_of m) b
   unfolding pixels_of
-  other-pixels = ap (fields_of (layout_of m).width (layout_of m).count) (same_bits (layout_of m) b (sector_written start (layout_of n) d b) there apart)
+  other_pixels = ap (fields_of (layout_of m).width (layout_of m).count) (same_bits (layout_of m) b (sector_written start (layout_of n) d b) there apart)
 
 -- all of it at once: what is read of sector n is the same of the bits b and c
 pub record Alike (n : ℕ) (b c : List ℕ) : Type 0 where
@@ -132,8 +132,8 @@ alike_back a = record { answer = λ start. sym (a.answer start); filler = sym a.
 pub others : (start m n : ℕ) (d b : List ℕ) → 1 ≤ m → m ≤ 12 → 1 ≤ n → n ≤ 12 → (m ≡ n → ⊥) → information_bits ≤ length b → length d ≡ (layout_of n).data_bits
     → Alike m (sector_written start (layout_of n) d b) b
 others start m n d b lm hm ln hn other long ld = record {
-  answer = other-answer start m n d b lm hm ln hn other long ld;
-  filler = other-filler start m n d b lm hm ln hn other long ld;
-  bytes = other-data start m n d b lm hm ln hn other long ld;
-  pixels = other-pixels start m n d b lm hm ln hn other long ld;
+  answer = other_answer start m n d b lm hm ln hn other long ld;
+  filler = other_filler start m n d b lm hm ln hn other long ld;
+  bytes = other_data start m n d b lm hm ln hn other long ld;
+  pixels = other_pixels start m n d b lm hm ln hn other long ld;
 }

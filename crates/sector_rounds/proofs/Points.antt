@@ -14,7 +14,7 @@ use Rattle.division.proofs.Zeros.{remainder_zeros, word_zeros}
 use Rattle.sector_table.specs.declared.layout.Layout.{Layout}
 use Rattle.sector_table.specs.Layout.{sectors, layout_of, covered_bits, Sound}
 use Rattle.sector_check.specs.Sector.{covered_of, id_of, answer_of, joined_of}
-use Rattle.sector_check.proofs.Answers.{answer-none}
+use Rattle.sector_check.proofs.Answers.{answer_none}
 use Rattle.sector_table.proofs.Table.{sound}
 use Rattle.sector_frame.specs.Written.{head_of}
 
@@ -24,12 +24,12 @@ pub doc_head : (k : ℕ) (ys : List ℕ) → head_of (layout_of 1) (replicate k 
 unfolding head_of
 doc_head k ys =
     let w : ℕ = (layout_of 1).id_bits in
-    ap (λ (t : List ℕ). t ++ (replicate k 0 ++ ys)) (ap (digits w) doc-id ∙ digits_zeros w)
+    ap (λ (t : List ℕ). t ++ (replicate k 0 ++ ys)) (ap (digits w) doc_id ∙ digits_zeros w)
     ∙ sym (append_assoc (replicate w 0) (replicate k 0) ys)
     ∙ ap (λ (t : List ℕ). t ++ ys) (replicate-append-replicate w k 0)
   where
-    doc-id : (layout_of 1).id ≡ 0
-    doc-id = unfold layout_of sectors in refl
+    doc_id : (layout_of 1).id ≡ 0
+    doc_id = unfold layout_of sectors in refl
 
 doc_word_is : (k : ℕ) (ys : List ℕ) → check_word_of 0 (head_of (layout_of 1) (replicate k 0 ++ ys)) ≡ check_word_of 0 ys
 doc_word_is k ys = ap (check_word_of 0) (doc_head k ys) ∙ word_zeros ((layout_of 1).id_bits + k) ys
@@ -69,7 +69,7 @@ unfolding covered_of id_of
 p3_accepted b e =
     let l : Layout = layout_of 1 in
     let s : Sound l = sound 1 (omega arith) (omega arith) in
-    sym (answer-none 0 l b
+    sym (answer_none 0 l b
     (ap (remainder_of 0) (first_bits b l.start (covered_bits l) l.bits (omega (arith, s.whole)) e) ∙ zeros_leave (covered_bits l))
     (ap number_of (first_bits b l.start l.id_bits l.bits (omega (arith, s.whole)) e) ∙ number_zeros l.id_bits ∙ own))
   where

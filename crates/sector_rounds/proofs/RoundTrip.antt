@@ -57,23 +57,23 @@ cleared l bytes s room small =
     ∙ append_assoc (packed_of 8 (take k bytes)) (digits w (x / 2 ^ spare)) (replicate spare 0)
     ∙ ap (λ (t : List ℕ). packed_of 8 (take k bytes) ++ t) (cleared_bits w spare x both)
     ∙ sym (packed_snoc 8 (take k bytes) y) ∙ sym (append-nil (packed_of 8 ps)) in
-    ap₂ fieldsOf-8 (sym lps) bits ∙ fields_packed 8 ps [] fit
+    ap₂ fields_of_8 (sym lps) bits ∙ fields_packed 8 ps [] fit
   where
-    fieldsOf-8 : ℕ → List ℕ → List ℕ
-    fieldsOf-8 n t = fields_of 8 n t
+    fields_of_8 : ℕ → List ℕ → List ℕ
+    fields_of_8 n t = fields_of 8 n t
 
 module _ (start : ℕ) (l : Layout) (b : List ℕ) (s : Sound l) (long : l.start + l.bits ≤ length b) where
   -- DATA: given back, the spare bits cleared
-  pub data-back : (bytes : List ℕ) → bytes_of l ≤ length bytes → Below (2 ^ 8) bytes → data_of l (sector_written start l (data_written l bytes) b) ≡ cleared_of l bytes
+  pub data_back : (bytes : List ℕ) → bytes_of l ≤ length bytes → Below (2 ^ 8) bytes → data_of l (sector_written start l (data_written l bytes) b) ≡ cleared_of l bytes
   unfolding data_of
-  data-back bytes room small =
+  data_back bytes room small =
       ap (λ (t : List ℕ). fields_of 8 (bytes_of l) (t ++ replicate (spare_of l) 0)) (written_bits start l (data_written l bytes) b s long (length_data_written l bytes room))
       ∙ cleared l bytes s room small
 
   -- PIXELS: given back, at every width
-  pub pixels-back : (ps : List ℕ) → l.count ≤ length ps → Below (2 ^ l.width) (take l.count ps) → pixels_of l (sector_written start l (pixels_written l ps) b) ≡ take l.count ps
+  pub pixels_back : (ps : List ℕ) → l.count ≤ length ps → Below (2 ^ l.width) (take l.count ps) → pixels_of l (sector_written start l (pixels_written l ps) b) ≡ take l.count ps
   unfolding pixels_of pixels_written
-  pixels-back ps room small =
+  pixels_back ps room small =
       let qs : List ℕ = take l.count ps in
       ap (fields_of l.width l.count) (written_bits start l (pixels_written l ps) b s long (length_pixels_written l ps s room) ∙ sym (append-nil (packed_of l.width qs)))
       ∙ ap (λ (n : ℕ). fields_of l.width n (packed_of l.width qs ++ [])) (sym (length-take-le l.count ps room))

@@ -26,8 +26,8 @@ use Rattle.sector_rounds.proofs.Carried.{low_of, high_of, one_of, Carries, holds
 -- ---- the calls on a buffer whose bits carry it
 
 module _ (f n : ℕ) (buf : List ℕ) (full : line_bytes ≤ length buf) where
-  admitted-by : (w : Put) → Carries f n w (bits_of buf) → line_refusal f (low_of w) (high_of w) n (length buf) ≡ 0
-  admitted-by w c = admits f (low_of w) (high_of w) n (length buf) c.known c.low c.high full
+  admitted_by : (w : Put) → Carries f n w (bits_of buf) → line_refusal f (low_of w) (high_of w) n (length buf) ≡ 0
+  admitted_by w c = admits f (low_of w) (high_of w) n (length buf) c.known c.low c.high full
 
   -- a chain of tests that all pass
   passes : (lo hi given needed : ℕ) → line_refusal f lo hi n (length buf) ≡ 0 → needed ≤ given → answer_of (check_start f) (layout_of n) (bits_of buf) ≡ 0
@@ -43,17 +43,17 @@ module _ (f n : ℕ) (buf : List ℕ) (full : line_bytes ≤ length buf) where
       let none = passes lo hi (length out) (layout_of n).count a long answer in
       (none, kept_none _ out _ none ∙ ap (λ (x : List ℕ). x ++ drop (layout_of n).count out) e)
 
-  data-given : (bytes : List ℕ) → line_refusal f 1 12 n (length buf) ≡ 0 → answer_of (check_start f) (layout_of n) (bits_of buf) ≡ 0
+  data_given : (bytes : List ℕ) → line_refusal f 1 12 n (length buf) ≡ 0 → answer_of (check_start f) (layout_of n) (bits_of buf) ≡ 0
       → data_of (layout_of n) (bits_of buf) ≡ cleared_of (layout_of n) bytes → ValuesBack f n (Data bytes) buf
   unfolding data_answer data_left
-  data-given bytes a answer e out long =
+  data_given bytes a answer e out long =
       let none = passes 1 12 (length out) (bytes_of (layout_of n)) a long answer in
       (none, kept_none _ out _ none ∙ ap (λ (x : List ℕ). x ++ drop (bytes_of (layout_of n)) out) e)
 
-  values-given : (w : Put) → Carries f n w (bits_of buf) → ValuesBack f n w buf
-  values-given (Data bytes) c = data-given bytes (admitted-by (Data bytes) c) c.answer c.gives
-  values-given (Pixels ps) c = pixels_given 2 11 ps (admitted-by (Pixels ps) c) c.answer c.gives
-  values-given (Wide ps) c = pixels_given 12 12 ps (admitted-by (Wide ps) c) c.answer c.gives
+  values_given : (w : Put) → Carries f n w (bits_of buf) → ValuesBack f n w buf
+  values_given (Data bytes) c = data_given bytes (admitted_by (Data bytes) c) c.answer c.gives
+  values_given (Pixels ps) c = pixels_given 2 11 ps (admitted_by (Pixels ps) c) c.answer c.gives
+  values_given (Wide ps) c = pixels_given 12 12 ps (admitted_by (Wide ps) c) c.answer c.gives
 
   -- WHAT THE BITS OF A BUFFER CARRY, the calls give back
   pub comes_back : (w : Put) → Carries f n w (bits_of buf) → ComesBack f n w buf
@@ -65,7 +65,7 @@ module _ (f n : ℕ) (buf : List ℕ) (full : line_bytes ≤ length buf) where
       record {
         accepted = first_none refusal (answer_of (check_start f) (layout_of n) (bits_of buf)) none ∙ c.answer;
         filler = sym (given_none Refused refusal refusal (Set (filler_of (layout_of n) (bits_of buf))) (Set 0) refl none (ap Set (sym c.filler)));
-        values = values-given w c;
+        values = values_given w c;
       }
 
 -- ONE LINE: what a sector of it holds, the calls give back

@@ -44,8 +44,8 @@ sound n lo hi =
       whole = eqb→eq l.bits (l.id_bits + l.data_bits + check_bits + filler_bits) (at_row (λ l. eqb l.bits (l.id_bits + l.data_bits + check_bits + filler_bits)) sectors tt i (index n lo hi));
       pixels = eqb→eq l.data_bits (l.count * l.width) (at_row (λ l. eqb l.data_bits (l.count * l.width)) sectors tt i (index n lo hi));
       inside = leb→le (l.start + l.bits) information_bits (at_row (λ l. leb (l.start + l.bits) information_bits) sectors tt i (index n lo hi));
-      id-short = leb→le l.id_bits 16 (at_row (λ l. leb l.id_bits 16) sectors tt i (index n lo hi));
-      id-fits = ltb→lt l.id (2 ^ l.id_bits) (at_row (λ l. ltb l.id (2 ^ l.id_bits)) sectors tt i (index n lo hi));
+      id_short = leb→le l.id_bits 16 (at_row (λ l. leb l.id_bits 16) sectors tt i (index n lo hi));
+      id_fits = ltb→lt l.id (2 ^ l.id_bits) (at_row (λ l. ltb l.id (2 ^ l.id_bits)) sectors tt i (index n lo hi));
       narrow = leb→le l.width 16 (at_row (λ l. leb l.width 16) sectors tt i (index n lo hi));
       some = ltb→lt 0 l.data_bits (at_row (λ l. ltb 0 l.data_bits) sectors tt i (index n lo hi));
     }

@@ -73,7 +73,7 @@ pub record Sound (l : Layout) : Type 0 where
   pub whole : l.bits ≡ l.id_bits + l.data_bits + check_bits + filler_bits
   pub pixels : l.data_bits ≡ l.count * l.width
   pub inside : l.start + l.bits ≤ information_bits
-  pub id-short : l.id_bits ≤ 16
-  pub id-fits : l.id < 2 ^ l.id_bits
+  pub id_short : l.id_bits ≤ 16
+  pub id_fits : l.id < 2 ^ l.id_bits
   pub narrow : l.width ≤ 16
   pub some : 0 < l.data_bits

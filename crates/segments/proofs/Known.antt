@@ -93,25 +93,25 @@ module _ (f : ℕ) (a : Assembly) (line : List ℕ) (n : ℕ) (block : List ℕ)
 -- ---- a segment in its place, as the code goes
 
 module _ (n : ℕ) (a : Assembly) (line : List ℕ) (s : ℕ) (block : List ℕ) (k : ℕ) (told : k ≡ place_refusal n a (revisions_in line) line s block) where
-  abbrev pub Is-placed : Added → List ℕ → Type 0
-  Is-placed r left = (r ≡ place_answer n a line s block) × (left ≡ place_left n a line s block)
+  abbrev pub IsPlaced : Added → List ℕ → Type 0
+  IsPlaced r left = (r ≡ place_answer n a line s block) × (left ≡ place_left n a line s block)
 
-  pub placed-refused : (k ≡ 0 → ⊥) → Is-placed (added.Refused k) block
+  pub placed_refused : (k ≡ 0 → ⊥) → IsPlaced (added.Refused k) block
   unfolding place_answer place_left
-  placed-refused some = (given_some added.Refused k _ _ told some, sym (kept_some _ _ _ (λ z. some (told ∙ z))))
+  placed_refused some = (given_some added.Refused k _ _ told some, sym (kept_some _ _ _ (λ z. some (told ∙ z))))
 
-  pub placed-again : (r : Revisions) → k ≡ 0 → marked a.marks s ≡ true → r ≡ remembered a (revisions_in line)
-      → Is-placed (placed (record { marks = a.marks; revisions = r }) s false) block
+  pub placed_again : (r : Revisions) → k ≡ 0 → marked a.marks s ≡ true → r ≡ remembered a (revisions_in line)
+      → IsPlaced (placed (record { marks = a.marks; revisions = r }) s false) block
   unfolding place_answer place_left assembly_with marks_with block_with
-  placed-again r z h e = (
+  placed_again r z h e = (
     given_none added.Refused k _ _ _ told z (rw h (ap (λ (x : Revisions). placed (record { marks = a.marks; revisions = x }) s false) e)),
     sym (kept_none _ _ _ (sym told ∙ z) ∙ rw h refl),
   )
 
-  pub placed-new : (r : Revisions) (m : Marks) (left : List ℕ) (b : Block) → k ≡ 0 → marked a.marks s ≡ false → r ≡ remembered a (revisions_in line) → m ≡ with_mark a.marks s
-      → left ≡ stored_of b line s block → b ≡ block_of n → Is-placed (placed (record { marks = m; revisions = r }) s true) left
+  pub placed_new : (r : Revisions) (m : Marks) (left : List ℕ) (b : Block) → k ≡ 0 → marked a.marks s ≡ false → r ≡ remembered a (revisions_in line) → m ≡ with_mark a.marks s
+      → left ≡ stored_of b line s block → b ≡ block_of n → IsPlaced (placed (record { marks = m; revisions = r }) s true) left
   unfolding place_answer place_left assembly_with marks_with block_with
-  placed-new r m left b z h e f l own = (
+  placed_new r m left b z h e f l own = (
     given_none added.Refused k _ _ _ told z (rw h (ap₂ (λ (x : Marks) (y : Revisions). placed (record { marks = x; revisions = y }) s true) f e)),
     l ∙ ap (λ (x : Block). stored_of x line s block) own ∙ sym (kept_none _ _ _ (sym told ∙ z) ∙ rw h refl),
   )

@@ -15,10 +15,10 @@ use Rattle.segments.proofs.Known.{added_is}
 
 pub added_kind : (a : Assembly) → Kind Refused (λ (v : ℕ × Bool × Assembly). placed v.2 v.0 v.1) added_number (added_values a) (0, false, a)
 added_kind a = record {
-  number-refused = λ n. refl;
-  number-given = λ v. refl;
-  value-refused = λ n. refl;
-  value-given = λ v. refl;
+  number_refused = λ n. refl;
+  number_given = λ v. refl;
+  value_refused = λ n. refl;
+  value_given = λ v. refl;
   apart = λ v e. let z : ◌≡◌ {A = ℕ} 0 1 = cc in let w : ⊥ = omega arith in w;
   either = each;
 }
@@ -33,10 +33,10 @@ add_segment_is f a line n block r = says_is (added_kind a) _ _ r
 
 -- a line that carries a segment: the segment in its place, of the line's own number, is what the call gives and leaves
 module _ (f : ℕ) (a : Assembly) (line : List ℕ) (n : ℕ) (block : List ℕ) (none : carried_refusal f a.marks line n (length block) ≡ 0) where
-  pub added-told : (s : ℕ) → s ≡ segment_in line → (r : Added) (left : List ℕ) → (r ≡ place_answer n a line s block) × (left ≡ place_left n a line s block)
+  pub added_told : (s : ℕ) → s ≡ segment_in line → (r : Added) (left : List ℕ) → (r ≡ place_answer n a line s block) × (left ≡ place_left n a line s block)
       → AddSegmentOk f a line n block r × (left ≡ add_segment_left f a line n block)
   unfolding add_segment_answer
-  added-told s names r left h =
+  added_told s names r left h =
       let is = added_is f a line n block none in (
         says_of (added_kind a) r _ _ (h.0 ∙ ap (λ (t : ℕ). place_answer n a line t block) names ∙ sym is.0),
         h.1 ∙ ap (λ (t : ℕ). place_left n a line t block) names ∙ sym is.1,

@@ -79,57 +79,57 @@ back a b ka kb e =
 
 module _ (a b : List ℕ) (ka : Stamp a) (kb : Stamp b) where
   -- the date decides, and then the count
-  pub before-number : before a b ≡ ltb (date_number a * 65536 + count_number a) (date_number b * 65536 + count_number b)
+  pub before_number : before a b ≡ ltb (date_number a * 65536 + count_number a) (date_number b * 65536 + count_number b)
   unfolding before
-  before-number =
+  before_number =
       less_base 256 (key a) (key b) (key_length a ka ∙ sym (key_length b kb)) (key_below a ka) (key_below b kb) ∙ ap₂ ltb (key_number a ka) (key_number b kb)
 
-  pub date-before : date_number a < date_number b → true ≡ before a b
-  date-before h = sym (before-number ∙ lt-ltb _ _ (outweighs (date_number a) (date_number b) 65536 (count_number a) (count_number b) h (count_lt a ka)))
+  pub date_before : date_number a < date_number b → true ≡ before a b
+  date_before h = sym (before_number ∙ lt-ltb _ _ (outweighs (date_number a) (date_number b) 65536 (count_number a) (count_number b) h (count_lt a ka)))
 
-  pub date-after : date_number b < date_number a → false ≡ before a b
-  date-after h =
+  pub date_after : date_number b < date_number a → false ≡ before a b
+  date_after h =
       let more = outweighs (date_number b) (date_number a) 65536 (count_number b) (count_number a) h (count_lt b kb) in
-      sym (before-number ∙ le-ltb (date_number a * 65536 + count_number a) (date_number b * 65536 + count_number b) (omega (arith, more)))
+      sym (before_number ∙ le-ltb (date_number a * 65536 + count_number a) (date_number b * 65536 + count_number b) (omega (arith, more)))
 
-  pub date-level : date_number a ≡ date_number b → ltb (count_number a) (count_number b) ≡ before a b
-  date-level e =
+  pub date_level : date_number a ≡ date_number b → ltb (count_number a) (count_number b) ≡ before a b
+  date_level e =
       shifted (date_number a * 65536) (count_number a) (count_number b)
       ∙ ap (λ (n : ℕ). ltb (date_number a * 65536 + count_number a) (n * 65536 + count_number b)) e
-      ∙ sym before-number
+      ∙ sym before_number
 
 pub irreflexive : (a : List ℕ) → Stamp a → before a a ≡ false
-irreflexive a k = before-number a a k k ∙ le-ltb (date_number a * 65536 + count_number a) (date_number a * 65536 + count_number a) (omega arith)
+irreflexive a k = before_number a a k k ∙ le-ltb (date_number a * 65536 + count_number a) (date_number a * 65536 + count_number a) (omega arith)
 
 module _ (a b : List ℕ) (ka : Stamp a) (kb : Stamp b) where
   lower : before a b ≡ true → date_number a * 65536 + count_number a < date_number b * 65536 + count_number b
-  lower e = ltb-true (date_number a * 65536 + count_number a) (date_number b * 65536 + count_number b) (sym (before-number a b ka kb) ∙ e)
+  lower e = ltb-true (date_number a * 65536 + count_number a) (date_number b * 65536 + count_number b) (sym (before_number a b ka kb) ∙ e)
 
   not_lower : before a b ≡ false → date_number b * 65536 + count_number b ≤ date_number a * 65536 + count_number a
-  not_lower e = ltb-false (date_number a * 65536 + count_number a) (date_number b * 65536 + count_number b) (sym (before-number a b ka kb) ∙ e)
+  not_lower e = ltb-false (date_number a * 65536 + count_number a) (date_number b * 65536 + count_number b) (sym (before_number a b ka kb) ∙ e)
 
 pub transitive : (a b c : List ℕ) → Stamp a → Stamp b → Stamp c → before a b ≡ true → before b c ≡ true → before a c ≡ true
 transitive a b c ka kb kc e f =
     let h = lower a b ka kb e in
     let g = lower b c kb kc f in
-    before-number a c ka kc ∙ lt-ltb (date_number a * 65536 + count_number a) (date_number c * 65536 + count_number c) (omega (arith, h, g))
+    before_number a c ka kc ∙ lt-ltb (date_number a * 65536 + count_number a) (date_number c * 65536 + count_number c) (omega (arith, h, g))
 
 -- EXACTLY ONE OF THREE: a lies before b, b before a, or they are the same
 module _ (a b : List ℕ) (ka : Stamp a) (kb : Stamp b) where
   pub asymmetric : before a b ≡ true → before b a ≡ false
   asymmetric e =
       let h = lower a b ka kb e in
-      before-number b a kb ka ∙ le-ltb (date_number b * 65536 + count_number b) (date_number a * 65536 + count_number a) (omega (arith, h))
+      before_number b a kb ka ∙ le-ltb (date_number b * 65536 + count_number b) (date_number a * 65536 + count_number a) (omega (arith, h))
 
-  pub same-not-before : same_stamp a b ≡ true → before a b ≡ false
+  pub same_not_before : same_stamp a b ≡ true → before a b ≡ false
   unfolding same_stamp before
-  same-not-before e =
+  same_not_before e =
       let keys : key a ≡ key b = parts a b ka kb (same_eq (stretch a 0 10) (stretch b 0 10) e) in
       ap (λ (l : List ℕ). less (key a) l) (sym keys) ∙ irreflexive a ka
 
-  pub neither-same : before a b ≡ false → before b a ≡ false → same_stamp a b ≡ true
+  pub neither_same : before a b ≡ false → before b a ≡ false → same_stamp a b ≡ true
   unfolding same_stamp
-  neither-same e f =
+  neither_same e f =
       let h = not_lower a b ka kb e in
       let g = not_lower b a kb ka f in
       let number : in_base 256 (key a) ≡ in_base 256 (key b) = key_number a ka ∙ omega (arith, h, g) ∙ sym (key_number b kb) in

@@ -33,25 +33,25 @@ module _ (n : ℕ) (out : List ℕ) where
   unfolding put_sync_left
   turned_away r e h = (says_some a_sync r (put_sync_refusal n (length out)) _ e h, sym (kept_some (put_sync_refusal n (length out)) out _ (λ z. h (e ∙ z))))
 
-  pub sync-refused : (k : ℕ) → format_of n ≡ Refused k → Gives (put.Refused k) out
+  pub sync_refused : (k : ℕ) → format_of n ≡ Refused k → Gives (put.Refused k) out
   unfolding put_sync_refusal
-  sync-refused k e = let some = some_number n k e in turned_away k (refused k (format_refusal n) _ (sym (is_unknown n k e)) some) some
+  sync_refused k e = let some = some_number n k e in turned_away k (refused k (format_refusal n) _ (sym (is_unknown n k e)) some) some
 
   module _ (f : Format) (e : format_of n ≡ Is f) (r : ℕ) (short : r ≡ short_of (length out) (f.sync / 8) 3) where
     number : r ≡ put_sync_refusal n (length out)
     unfolding put_sync_refusal
     number = short ∙ ap (λ (g : Format). short_of (length out) (g.sync / 8) 3) (sym (named_by_is n f e)) ∙ sym (first_none (format_refusal n) _ (is_known n f e))
 
-    pub sync-short : (r ≡ 0 → ⊥) → Gives (put.Refused r) out
-    sync-short = turned_away r number
+    pub sync_short : (r ≡ 0 → ⊥) → Gives (put.Refused r) out
+    sync_short = turned_away r number
 
-    pub sync-done : (reg : ℕ) (after : List ℕ) → r ≡ 0 → Below 256 out → Below 256 after
+    pub sync_done : (reg : ℕ) (after : List ℕ) → r ≡ 0 → Below 256 out → Below 256 after
         → reg ≡ before_sync f.sync → bits_of after ≡ take 0 (bits_of out) ++ scrambling_bits f.sync reg ++ drop (0 + f.sync) (bits_of out)
         → Gives (put.Put (f.sync / 8)) after
     unfolding put_sync_left SYNC
-    sync-done reg after z b b' at w =
+    sync_done reg after z b b' at w =
         let named = sym (named_by_is n f e) in
-        let whole : f.sync ≡ f.sync / 8 * 8 = (parts n f e).sync-whole in
+        let whole : f.sync ≡ f.sync / 8 * 8 = (parts n f e).sync_whole in
         let rest : drop (0 + f.sync) (bits_of out) ≡ bits_of (drop (f.sync / 8) out) =
         ap (λ (k : ℕ). drop k (bits_of out)) (zero-add f.sync ∙ whole) ∙ bits_drop out (f.sync / 8) in
         let bytes : after ≡ fields_of 8 (f.sync / 8) (SYNC f.sync) ++ drop (f.sync / 8) out =

@@ -10,10 +10,10 @@ use Rattle.sync.specs.declared.SyncPut.TheVariants.{Refused, Put}
 
 pub a_sync : Kind Refused Put sync_number sync_bytes 0
 a_sync = record {
-  number-refused = λ n. refl;
-  number-given = λ v. refl;
-  value-refused = λ n. refl;
-  value-given = λ v. refl;
+  number_refused = λ n. refl;
+  number_given = λ v. refl;
+  value_refused = λ n. refl;
+  value_given = λ v. refl;
   apart = λ v e. let z : ◌≡◌ {A = ℕ} 0 1 = cc in let w : ⊥ = omega arith in w;
   either = each;
 }

@@ -21,10 +21,10 @@ use Rattle.reader_bits.specs.Loops.{step_of, done_of, going}
 use Rattle.tail_search.specs.Search.{PassedOk, SoughtOk}
 use Rattle.tail_search.specs.declared.Passed.{Passed}
 use Rattle.reader_bits.specs.Lines.{is_tail}
-use Rattle.reader_bits.specs.Phase.{Phase, seeking, within, phaseNext, buffer_next, completes}
+use Rattle.reader_bits.specs.Phase.{Phase, seeking, within, phase_next, buffer_next, completes}
 use Rattle.tail_search.specs.declared.Sought.TheVariants.{Found, Nothing}
-use Rattle.reader_bits.proofs.Resume.{bit_lt, resume-bit}
-use Rattle.reader_bits.proofs.Going.{going-byte, going_end}
+use Rattle.reader_bits.proofs.Resume.{bit_lt, resume_bit}
+use Rattle.reader_bits.proofs.Going.{going_byte, going_end}
 use Rattle.reader_bits.proofs.Masks.{stays}
 use Rattle.tail_bytes.specs.Clear.{Clear}
 
@@ -79,50 +79,50 @@ clear_on setting w j b hb clear = record {
 }
 
 module _ (setting : ℕ) (p : List ℕ) (t : ℕ) (buf : List ℕ) where
-  seek-bit : (c w n v : ℕ) → going setting p t (seeking c w) buf (suc n) v ≡ going setting p t (phaseNext 64 (is_tail setting) line_bytes (seeking c w) (bit_of n v)) buf n v
+  seek_bit : (c w n v : ℕ) → going setting p t (seeking c w) buf (suc n) v ≡ going setting p t (phase_next 64 (is_tail setting) line_bytes (seeking c w) (bit_of n v)) buf n v
   unfolding going completes buffer_next
-  seek-bit c w n v = resume-bit (step_of setting) done_of p t (seeking c w, buf) n v
+  seek_bit c w n v = resume_bit (step_of setting) done_of p t (seeking c w, buf) n v
 
-  seek-short : (c w n v : ℕ) → c < 63 → going setting p t (seeking c w) buf (suc n) v ≡ going setting p t (seeking (suc c) (w * 2 + bit_of n v)) buf n v
-  unfolding phaseNext
-  seek-short c w n v h = seek-bit c w n v ∙ rw (lt-ltb (suc c) 64 (omega arith))
+  seek_short : (c w n v : ℕ) → c < 63 → going setting p t (seeking c w) buf (suc n) v ≡ going setting p t (seeking (suc c) (w * 2 + bit_of n v)) buf n v
+  unfolding phase_next
+  seek_short c w n v h = seek_bit c w n v ∙ rw (lt-ltb (suc c) 64 (omega arith))
 
   seek_hit : (c w n v : ℕ) → c ≡ 63 → is_tail setting (digits 64 (w * 2 + bit_of n v)) ≡ true
       → going setting p t (seeking c w) buf (suc n) v ≡ going setting p t (within 0 fifteen_ones 0) buf n v
-  unfolding phaseNext
-  seek_hit c w n v h e = seek-bit c w n v ∙ rw (le-ltb (suc c) 64 (omega arith), e)
+  unfolding phase_next
+  seek_hit c w n v h e = seek_bit c w n v ∙ rw (le-ltb (suc c) 64 (omega arith), e)
 
-  seek-miss : (c w n v : ℕ) → c ≡ 63 → is_tail setting (digits 64 (w * 2 + bit_of n v)) ≡ false
+  seek_miss : (c w n v : ℕ) → c ≡ 63 → is_tail setting (digits 64 (w * 2 + bit_of n v)) ≡ false
       → going setting p t (seeking c w) buf (suc n) v ≡ going setting p t (seeking c ((w * 2 + bit_of n v) % 2 ^ c)) buf n v
-  unfolding phaseNext
-  seek-miss c w n v h e = seek-bit c w n v ∙ rw (le-ltb (suc c) 64 (omega arith), e)
+  unfolding phase_next
+  seek_miss c w n v h e = seek_bit c w n v ∙ rw (le-ltb (suc c) 64 (omega arith), e)
 
   -- j bits more are remembered
-  seek-some : (j c w n v : ℕ) → c + j ≤ 63
+  seek_some : (j c w n v : ℕ) → c + j ≤ 63
       → going setting p t (seeking c w) buf (j + n) v ≡ going setting p t (seeking (c + j) (w * 2 ^ j + v / 2 ^ n % 2 ^ j)) buf n v
-  seek-some zero c w n v h =
+  seek_some zero c w n v h =
       let e : w ≡ w * 2 ^ 0 + v / 2 ^ n % 2 ^ 0 = omega (arith, mod-one (v / 2 ^ n)) in
       ap (λ (m : ℕ). going setting p t (seeking c w) buf m v) (zero-add n) ∙ ap₂ (λ (x y : ℕ). going setting p t (seeking x y) buf n v) (sym (add-zero c)) e
-  seek-some (suc j) c w n v h =
+  seek_some (suc j) c w n v h =
       let d : suc c + j ≡ c + suc j = omega arith in
       ap (λ (m : ℕ). going setting p t (seeking c w) buf m v) (suc-add j n)
-      ∙ seek-short c w (j + n) v (omega arith)
-      ∙ seek-some j (suc c) (w * 2 + bit_of (j + n) v) n v (omega arith)
+      ∙ seek_short c w (j + n) v (omega arith)
+      ∙ seek_some j (suc c) (w * 2 + bit_of (j + n) v) n v (omega arith)
       ∙ ap₂ (λ (x y : ℕ). going setting p t (seeking x y) buf n v) d (bits_on w j n v)
 
   -- j bits in which no window counts
-  seek-clear : (j w n v : ℕ) → w < 2 ^ 63 → Clear setting w j
+  seek_clear : (j w n v : ℕ) → w < 2 ^ 63 → Clear setting w j
       → going setting p t (seeking 63 w) buf (j + n) v ≡ going setting p t (seeking 63 ((w * 2 ^ j + v / 2 ^ n % 2 ^ j) % 2 ^ 63)) buf n v
-  seek-clear zero w n v s clear =
+  seek_clear zero w n v s clear =
       let e : w * 2 ^ 0 + v / 2 ^ n % 2 ^ 0 ≡ w = omega (arith, mod-one (v / 2 ^ n)) in
       ap (λ (m : ℕ). going setting p t (seeking 63 w) buf m v) (zero-add n)
       ∙ ap (λ (x : ℕ). going setting p t (seeking 63 x) buf n v) (sym (ap (λ (x : ℕ). x % 2 ^ 63) e ∙ mod-eq_of_lt s))
-  seek-clear (suc j) w n v s clear =
+  seek_clear (suc j) w n v s clear =
       let x : ℕ = w * 2 + bit_of (j + n) v in
       let one : is_tail setting (digits 64 x) ≡ false = clear.none 1 (bit_of (j + n) v) (lit≤ tt) (omega arith) (bit_lt (j + n) v) in
       ap (λ (m : ℕ). going setting p t (seeking 63 w) buf m v) (suc-add j n)
-      ∙ seek-miss 63 w (j + n) v refl one
-      ∙ seek-clear j (x % 2 ^ 63) n v (mod-lt x (pow_pos 63)) (clear_on setting w j (bit_of (j + n) v) (bit_lt (j + n) v) clear)
+      ∙ seek_miss 63 w (j + n) v refl one
+      ∙ seek_clear j (x % 2 ^ 63) n v (mod-lt x (pow_pos 63)) (clear_on setting w j (bit_of (j + n) v) (bit_lt (j + n) v) clear)
       ∙ ap (λ (y : ℕ). going setting p t (seeking 63 y) buf n v) (same_rest x (2 ^ j) (v / 2 ^ n % 2 ^ j) ∙ ap (λ (y : ℕ). y % 2 ^ 63) (bits_on w j n v))
 
 -- the code's byte pushed in at the low end
@@ -141,9 +141,9 @@ byte_clear setting p t c w v b k small e s h clear buf =
     let w-small : w < 2 ^ 63 = rw k at small in
     let value : w * 2 ^ 8 + get_or p t 0 / 2 ^ 0 % 2 ^ 8 ≡ w * 2 ^ 8 + b =
     ap (λ (x : ℕ). w * 2 ^ 8 + x % 2 ^ 8) (div-one (get_or p t 0)) ∙ ap (λ (x : ℕ). w * 2 ^ 8 + x % 2 ^ 8) (sym e) ∙ ap (λ (x : ℕ). w * 2 ^ 8 + x) (mod-eq_of_lt s) in
-    going-byte setting p t buf (seeking c w) v h
+    going_byte setting p t buf (seeking c w) v h
     ∙ ap₂ (λ (x i : ℕ). going setting p x (seeking i w) buf 8 (get_or p t 0)) (sym (add-one t)) k
-    ∙ seek-clear setting p (t + 1) buf 8 w 0 (get_or p t 0) w-small clear
+    ∙ seek_clear setting p (t + 1) buf 8 w 0 (get_or p t 0) w-small clear
     ∙ ap₂ (λ (x y : ℕ). going setting p (t + 1) (seeking 63 (x % 2 ^ 63)) buf 0 y) value (sym e)
     ∙ ap₂ (λ (x i : ℕ). going setting p (t + 1) (seeking i x) buf 0 b) (sym (code_byte w b s)) (sym k)
 
@@ -177,54 +177,54 @@ module _ {setting : ℕ} {p : List ℕ} {c0 w0 n0 v0 t c w n v : ℕ} (way : Way
       way.same buf ∙ ap (λ (x : ℕ). going setting p t (seeking c w) buf x v) e ∙ k buf
 
   -- one bit more is remembered
-  pub way-short : (b : ℕ) → b ≡ bit_of (n - 1) v → zero < n → c < 63 → Way setting p c0 w0 n0 v0 t (c + 1) (w * 2 + b) (n - 1) v
-  way-short b e h k = record {
+  pub way_short : (b : ℕ) → b ≡ bit_of (n - 1) v → zero < n → c < 63 → Way setting p c0 w0 n0 v0 t (c + 1) (w * 2 + b) (n - 1) v
+  way_short b e h k = record {
     taken = way.taken;
     left = let l = way.left in omega arith;
     count = omega arith;
     small = push_lt c w b way.small (rw e (bit_lt (n - 1) v));
-    same = rw (add-one, e) (one_bit (seeking (suc c) (w * 2 + bit_of (n - 1) v)) h (λ buf. seek-short setting p t buf c w (n - 1) v k));
+    same = rw (add-one, e) (one_bit (seeking (suc c) (w * 2 + bit_of (n - 1) v)) h (λ buf. seek_short setting p t buf c w (n - 1) v k));
   }
 
   -- the window does not count as the tail: its first bit goes
-  pub way-miss : (b : ℕ) → b ≡ bit_of (n - 1) v → zero < n → 63 ≤ c → is_tail setting (digits 64 (w * 2 + b)) ≡ false
+  pub way_miss : (b : ℕ) → b ≡ bit_of (n - 1) v → zero < n → 63 ≤ c → is_tail setting (digits 64 (w * 2 + b)) ≡ false
       → Way setting p c0 w0 n0 v0 t c (bit_and (w * 2 + b) 0x7fff_ffff_ffff_ffff) (n - 1) v
-  way-miss b e h k f =
+  way_miss b e h k f =
       let i : c ≡ 63 = omega (arith, way.count) in
       record {
         taken = way.taken;
         left = let l = way.left in omega arith;
         count = way.count;
         small = rw (stays (w * 2 + b) c i) (mod-lt (w * 2 + b) (pow_pos c));
-        same = rw (stays (w * 2 + b) c i, e) (one_bit (seeking c ((w * 2 + bit_of (n - 1) v) % 2 ^ c)) h (λ buf. seek-miss setting p t buf c w (n - 1) v i (rw e at f)));
+        same = rw (stays (w * 2 + b) c i, e) (one_bit (seeking c ((w * 2 + bit_of (n - 1) v) % 2 ^ c)) h (λ buf. seek_miss setting p t buf c w (n - 1) v i (rw e at f)));
       }
 
   -- the window counts as the tail
-  pub way-hit : (b : ℕ) → b ≡ bit_of (n - 1) v → zero < n → 63 ≤ c → is_tail setting (digits 64 (w * 2 + b)) ≡ true
+  pub way_hit : (b : ℕ) → b ≡ bit_of (n - 1) v → zero < n → 63 ≤ c → is_tail setting (digits 64 (w * 2 + b)) ≡ true
       → SoughtOk setting p c0 w0 n0 v0 (Found t (n - 1) v)
-  way-hit b e h k f =
+  way_hit b e h k f =
       let i : c ≡ 63 = omega (arith, way.count) in
       record {
         fits = (way.taken, (let l = way.left in omega arith));
         same = one_bit (within 0 fifteen_ones 0) h (λ buf. seek_hit setting p t buf c w (n - 1) v i (rw e at f));
       }
 
-  pub way-byte : n ≡ 0 → t < length p → Way setting p c0 w0 n0 v0 (t + 1) c w 8 (get_or p t 0)
-  way-byte z h = record {
+  pub way_byte : n ≡ 0 → t < length p → Way setting p c0 w0 n0 v0 (t + 1) c w 8 (get_or p t 0)
+  way_byte z h = record {
     taken = omega arith;
     left = le_refl 8;
     count = way.count;
     small = way.small;
     same = λ buf. way.same buf
         ∙ ap (λ (x : ℕ). going setting p t (seeking c w) buf x v) z
-        ∙ going-byte setting p t buf (seeking c w) v h
+        ∙ going_byte setting p t buf (seeking c w) v h
         ∙ ap (λ (x : ℕ). going setting p x (seeking c w) buf 8 (get_or p t 0)) (sym (add-one t));
   }
 
   -- a whole byte is remembered
-  pub way-whole : (b : ℕ) → b ≡ get_or p t 0 → b < 2 ^ 8 → n ≡ 0 → t < length p → c < 56 → Way setting p c0 w0 n0 v0 (t + 1) (c + 8) (w * 256 + b) n b
-  way-whole b e s z h k =
-      let o = way-byte z h in
+  pub way_whole : (b : ℕ) → b ≡ get_or p t 0 → b < 2 ^ 8 → n ≡ 0 → t < length p → c < 56 → Way setting p c0 w0 n0 v0 (t + 1) (c + 8) (w * 256 + b) n b
+  way_whole b e s z h k =
+      let o = way_byte z h in
       let value : w * 2 ^ 8 + get_or p t 0 / 2 ^ 0 % 2 ^ 8 ≡ w * 256 + b = ap (λ (x : ℕ). w * 2 ^ 8 + x % 2 ^ 8) (div-one (get_or p t 0)) ∙ ap (λ (x : ℕ). w * 2 ^ 8 + x % 2 ^ 8) (sym e) ∙ ap (λ (x : ℕ). w * 2 ^ 8 + x) (mod-eq_of_lt s) in
       let room : 2 ^ (c + 8) ≡ 2 ^ c * 2 ^ 8 = pow-add 2 c 8 in
       record {
@@ -233,14 +233,14 @@ module _ {setting : ℕ} {p : List ℕ} {c0 w0 n0 v0 t c w n v : ℕ} (way : Way
         count = omega arith;
         small = omega (arith, room, way.small);
         same = λ buf. o.same buf
-            ∙ seek-some setting p (t + 1) buf 8 c w 0 (get_or p t 0) (omega arith)
+            ∙ seek_some setting p (t + 1) buf 8 c w 0 (get_or p t 0) (omega arith)
             ∙ ap₂ (λ (x y : ℕ). going setting p (t + 1) (seeking (c + 8) x) buf 0 y) value (sym e)
             ∙ ap (λ (x : ℕ). going setting p (t + 1) (seeking (c + 8) (w * 256 + b)) buf x b) (sym z);
       }
 
   -- behind bytes that are passed over
-  pub way-passed : (f : Passed) → n ≡ 0 → PassedOk setting p t v c w f → Way setting p c0 w0 n0 v0 f.taken c f.search n f.byte
-  way-passed f z o = record {
+  pub way_passed : (f : Passed) → n ≡ 0 → PassedOk setting p t v c w f → Way setting p c0 w0 n0 v0 f.taken c f.search n f.byte
+  way_passed f z o = record {
     taken = o.taken;
     left = way.left;
     count = way.count;

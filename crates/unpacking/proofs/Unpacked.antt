@@ -22,39 +22,39 @@ use Rattle.sector_table.proofs.Bounds.{ends}
 
 -- the bits from the data on are the data bits, and then others
 module _ (l : Layout) (b : List ℕ) (s : Sound l) (long : l.start + l.bits ≤ length b) where
-  pub length-data : length (data_bits_of l b) ≡ l.data_bits
+  pub length_data : length (data_bits_of l b) ≡ l.data_bits
   unfolding data_bits_of stretch
-  length-data = length-take-le l.data_bits (drop (data_at l) b) (simp length-drop (omega (arith, s.whole)))
+  length_data = length-take-le l.data_bits (drop (data_at l) b) (simp length-drop (omega (arith, s.whole)))
 
-  pub data-split : drop (data_at l) b ≡ data_bits_of l b ++ drop l.data_bits (drop (data_at l) b)
+  pub data_split : drop (data_at l) b ≡ data_bits_of l b ++ drop l.data_bits (drop (data_at l) b)
   unfolding data_bits_of stretch
-  data-split = sym (take-append-drop l.data_bits (drop (data_at l) b))
+  data_split = sym (take-append-drop l.data_bits (drop (data_at l) b))
 
   -- fields unpacked from the data on, as far as the data go
-  pub data-fields : (w n : ℕ) → n * w ≤ l.data_bits → fields_of w n (drop (data_at l) b) ≡ fields_of w n (data_bits_of l b)
-  data-fields w n h =
-      ap (fields_of w n) data-split ∙ fields_append w n (data_bits_of l b) (drop l.data_bits (drop (data_at l) b)) (rw length-data h)
+  pub data_fields : (w n : ℕ) → n * w ≤ l.data_bits → fields_of w n (drop (data_at l) b) ≡ fields_of w n (data_bits_of l b)
+  data_fields w n h =
+      ap (fields_of w n) data_split ∙ fields_append w n (data_bits_of l b) (drop l.data_bits (drop (data_at l) b)) (rw length_data h)
 
   -- THE PIXELS, at every width
-  pub pixels-unpacked : fields_of l.width l.count (drop (data_at l) b) ≡ pixels_of l b
+  pub pixels_unpacked : fields_of l.width l.count (drop (data_at l) b) ≡ pixels_of l b
   unfolding pixels_of
-  pixels-unpacked = data-fields l.width l.count (omega (arith, s.pixels))
+  pixels_unpacked = data_fields l.width l.count (omega (arith, s.pixels))
 
   -- THE DATA, as bytes: whole ones, and the last with zeros below its bits
-  pub data-last : (k spare : ℕ) → bytes_of l ≡ k + 1 → spare_of l ≡ spare → data_of l b ≡ fields_of 8 k (drop (data_at l) b) ++ (number_of (take (8 - spare) (drop (data_at l + k * 8) b)) * 2 ^ spare ∷ [])
+  pub data_last : (k spare : ℕ) → bytes_of l ≡ k + 1 → spare_of l ≡ spare → data_of l b ≡ fields_of 8 k (drop (data_at l) b) ++ (number_of (take (8 - spare) (drop (data_at l + k * 8) b)) * 2 ^ spare ∷ [])
   unfolding data_of
-  data-last k spare ek es =
+  data_last k spare ek es =
       let D : List ℕ = data_bits_of l b in
       let Z : List ℕ = replicate spare 0 in
       let R : List ℕ = drop l.data_bits (drop (data_at l) b) in
       let E : List ℕ = drop (k * 8) D in
-      let ld : length D ≡ l.data_bits = length-data in
+      let ld : length D ≡ l.data_bits = length_data in
       let fits : k * 8 ≤ length D = omega (arith, s.some) in
       let le : length E ≡ 8 - spare = length-drop (k * 8) D ∙ omega (arith, s.some) in
       let lez : length (E ++ Z) ≤ 8 = simp (length-append, length-replicate) (omega (arith, s.some)) in
       let read : take (8 - spare) (drop (data_at l + k * 8) b) ≡ E =
-      ap (take (8 - spare)) (sym (drop-drop (k * 8) (data_at l) b) ∙ ap (drop (k * 8)) data-split ∙ drop-append-le (k * 8) D R fits) ∙ take_at E R (8 - spare) le in
-      let whole : fields_of 8 k (D ++ Z) ≡ fields_of 8 k (drop (data_at l) b) = fields_append 8 k D Z fits ∙ sym (data-fields 8 k (omega (arith, ld))) in
+      ap (take (8 - spare)) (sym (drop-drop (k * 8) (data_at l) b) ∙ ap (drop (k * 8)) data_split ∙ drop-append-le (k * 8) D R fits) ∙ take_at E R (8 - spare) le in
+      let whole : fields_of 8 k (D ++ Z) ≡ fields_of 8 k (drop (data_at l) b) = fields_append 8 k D Z fits ∙ sym (data_fields 8 k (omega (arith, ld))) in
       let last : number_of (take 8 (drop (k * 8) (D ++ Z))) ≡ number_of (take (8 - spare) (drop (data_at l + k * 8) b)) * 2 ^ spare =
       ap number_of (ap (take 8) (drop-append-le (k * 8) D Z fits) ∙ take_all 8 (E ++ Z) lez)
       ∙ number_append E Z
@@ -68,7 +68,7 @@ module _ (l : Layout) (b : List ℕ) (s : Sound l) (long : l.start + l.bits ≤ 
 
 -- as the code unpacks them, out of a buffer that holds the line
 pub pixels_here : (l : Layout) (s : List ℕ) → Sound l → line_bytes ≤ length s → fields_of l.width l.count (drop (data_at l) (bits_of s)) ≡ pixels_of l (bits_of s)
-pixels_here l s h long = pixels-unpacked l (bits_of s) h (rw length_bits (ends l (length s) h long))
+pixels_here l s h long = pixels_unpacked l (bits_of s) h (rw length_bits (ends l (length s) h long))
 
 pub pixels_filled : (l : Layout) (s out becomes : List ℕ) → Sound l → line_bytes ≤ length s
     → becomes ≡ fields_of l.width l.count (drop (data_at l) (bits_of s)) ++ drop l.count out → becomes ≡ pixels_of l (bits_of s) ++ drop l.count out
@@ -84,4 +84,4 @@ data_filled l s out h long k spare ek es room =
     let v : ℕ = number_of (take (8 - spare) (drop (data_at l + k * 8) b)) * 2 ^ spare in
     let long' : l.start + l.bits ≤ length b = rw length_bits (ends l (length s) h long) in
     grow p v out k (length_fields 8 k (drop (data_at l) b)) (omega arith)
-    ∙ ap₂ (λ (x : List ℕ) (n : ℕ). x ++ drop n out) (sym (data-last l b h long' k spare ek es)) (sym ek)
+    ∙ ap₂ (λ (x : List ℕ) (n : ℕ). x ++ drop n out) (sym (data_last l b h long' k spare ek es)) (sym ek)

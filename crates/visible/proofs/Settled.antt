@@ -11,10 +11,10 @@ use Rattle.visible.specs.Strip.{no_answers, stripped_number, stripped_answers, S
 
 pub stripped_kind : Kind Refused Parts stripped_number stripped_answers no_answers
 stripped_kind = record {
-  number-refused = λ n. refl;
-  number-given = λ v. refl;
-  value-refused = λ n. refl;
-  value-given = λ v. refl;
+  number_refused = λ n. refl;
+  number_given = λ v. refl;
+  value_refused = λ n. refl;
+  value_given = λ v. refl;
   apart = λ v e. let z : ◌≡◌ {A = ℕ} 0 1 = cc in let w : ⊥ = omega arith in w;
   either = each;
 }

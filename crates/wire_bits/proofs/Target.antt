@@ -18,9 +18,9 @@ unfolding target
 target_is s from count place r = refl
 
 module _ (s : List ℕ) (from count place r : ℕ) (fits : from + count ≤ 8 * length s) where
-  pub target-length : length (target s from count place r) ≡ count
+  pub target_length : length (target s from count place r) ≡ count
   unfolding target
-  target-length = length_wire place r (part s from count) ∙ length_part s from count fits
+  target_length = length_wire place r (part s from count) ∙ length_part s from count fits
 
   -- the bit that is put: the bit as it stood, on the wire
   pub target_at : (i b t : ℕ) → i < count → b ≡ get_or (bits_of s) (from + i) 0 → t ≡ plain_bit (place + i) (register_after i r) b → t ≡ get_or (target s from count place r) i 0

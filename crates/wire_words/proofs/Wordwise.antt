@@ -34,15 +34,15 @@ module _ {s s' : List ℕ} {first m place r r' : ℕ} (x y : ℕ) (done : Mixed 
   small : Bytes (λ j. bit_xor (bytes_from s' q j) (group_byte (place + m * 8) j))
   small j = xor_lt 8 _ _ (below j) (group_byte_lt (place + m * 8) j)
 
-  is-bytes : y ≡ low_first 8 bytes
-  is-bytes =
+  is_bytes : y ≡ low_first 8 bytes
+  is_bytes =
       ey
       ∙ ap (λ (n : ℕ). bit_xor (bit_xor n (group_word (place + m * 8))) (key_word r')) ex
       ∙ ap (λ (n : ℕ). bit_xor n (key_word r')) (low_xor 8 (bytes_from s' q) (group_byte (place + m * 8)) below (group_byte_lt (place + m * 8)))
       ∙ low_xor 8 _ (key_byte r') small (key_byte_lt r')
 
-  byte-is : (n : ℕ) → n < 8 → y / 2 ^ (n * 8) % 2 ^ 8 ≡ bytes n
-  byte-is n h = ap (λ (k : ℕ). k / 2 ^ (n * 8) % 2 ^ 8) is-bytes ∙ low_at 8 bytes n h (λ j. xor_lt 8 _ _ (small j) (key_byte_lt r' j))
+  byte_is : (n : ℕ) → n < 8 → y / 2 ^ (n * 8) % 2 ^ 8 ≡ bytes n
+  byte_is n h = ap (λ (k : ℕ). k / 2 ^ (n * 8) % 2 ^ 8) is_bytes ∙ low_at 8 bytes n h (λ j. xor_lt 8 _ _ (small j) (key_byte_lt r' j))
 
   -- n of the eight
   some_bytes : (n : ℕ) → n ≤ 8 → Mixed s (stored n s' q y) first (m + n) place r (register_after (n * 8) r')
@@ -56,7 +56,7 @@ module _ {s s' : List ℕ} {first m place r r' : ℕ} (x y : ℕ) (done : Mixed 
       let place' : place + (m + n) * 8 ≡ place + m * 8 + n * 8 = omega arith in
       let kept : get_or t (first + (m + n)) 0 ≡ bytes_from s' q n = ap (λ (k : ℕ). get_or t k 0) (sym at) ∙ stored_behind n s' q y (q + n) (omega arith) in
       let wire : digits 8 (y / 2 ^ (n * 8) % 2 ^ 8) ≡ wire_of (place + (m + n) * 8) (register_after (n * 8) r') (digits 8 (get_or t (first + (m + n)) 0)) =
-      ap (digits 8) (byte-is n (omega arith))
+      ap (digits 8) (byte_is n (omega arith))
       ∙ code_byte (place + (m + n) * 8) (register_after (n * 8) r') (bytes_from s' q n) (group_byte (place + m * 8) n) (key_byte r' n) (ap (groups_of 8) (sym place')) refl
       ∙ ap (λ (k : ℕ). wire_of (place + (m + n) * 8) (register_after (n * 8) r') (digits 8 k)) (sym kept) in
       let after : register_after (suc n * 8) r' ≡ register_after 8 (register_after (n * 8) r') = ap (λ (k : ℕ). register_after k r') next ∙ after_add (n * 8) 8 r' in

@@ -52,8 +52,8 @@ module _ {m : ℕ} {ps : List ℕ} {n i : ℕ} (seen : Seen m ps n i) where
   }
 
   -- one that found it
-  pub seen-over : (i ≡ n → ⊥) → i < length ps → m ≤ get_or ps i 0 → 10 ≡ over_of m (take n ps)
-  seen-over more h big =
+  pub seen_over : (i ≡ n → ⊥) → i < length ps → m ≤ get_or ps i 0 → 10 ≡ over_of m (take n ps)
+  seen_over more h big =
       let k : ℕ = n - i - 1 in
       let much : n ≡ i + suc k = omega (arith, seen.among, more) in
       let rest : take (suc k) (drop i ps) ≡ get_or ps i 0 ∷ take k (drop (suc i) ps) = ap (take (suc k)) (drop-cons ps i 0 h) in
@@ -65,8 +65,8 @@ module _ {m : ℕ} {ps : List ℕ} {n i : ℕ} (seen : Seen m ps n i) where
       ∙ over_first m (get_or ps i 0) (take k (drop (suc i) ps)) big)
 
   -- the end: n were seen, or all
-  pub seen-enough : i ≡ n → 0 ≡ over_of m (take n ps)
-  seen-enough e = sym (ap (λ (k : ℕ). over_of m (take k ps)) (sym e) ∙ seen.none)
+  pub seen_enough : i ≡ n → 0 ≡ over_of m (take n ps)
+  seen_enough e = sym (ap (λ (k : ℕ). over_of m (take k ps)) (sym e) ∙ seen.none)
 
   pub seen_all : length ps ≤ i → 0 ≡ over_of m (take n ps)
   seen_all h = sym (ap (over_of m) (take_all n ps (omega (arith, seen.among)) ∙ sym (take_all i ps h)) ∙ seen.none)

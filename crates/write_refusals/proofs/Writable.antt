@@ -21,7 +21,7 @@ pub record Writable (lo hi n len given needed : ℕ) : Type 0 where
   pub low : lo ≤ n
   pub high : n ≤ hi
   pub long : line_bytes ≤ len
-  pub given-all : needed ≤ given
+  pub given_all : needed ≤ given
 
 writable : (f lo hi n len given needed : ℕ) → asked_of f lo hi n ≡ 0 → input_short len given needed ≡ 0 → Writable lo hi n len given needed
 unfolding input_short
@@ -31,7 +31,7 @@ writable f lo hi n len given needed ea ei =
       low = number.low;
       high = number.high;
       long = enough len line_bytes 2 (λ z. omega arith) (none_first (short_of len line_bytes 2) (short_of given needed 2) ei);
-      given-all = enough given needed 2 (λ z. omega arith) (none_second (short_of len line_bytes 2) (short_of given needed 2) ei);
+      given_all = enough given needed 2 (λ z. omega arith) (none_second (short_of len line_bytes 2) (short_of given needed 2) ei);
     }
 
 pub data_writable : (f len n given : ℕ) → put_data_answer f len n given ≡ 0 → Writable 1 12 n len given (bytes_of (layout_of n))
@@ -42,18 +42,18 @@ data_writable f len n given e =
     writable f 1 12 n len given (bytes_of (layout_of n)) (none_first asked short e) (none_second asked short e)
 
 module _ (lo hi f len n : ℕ) (ps : List ℕ) (e : put_pixels_answer lo hi f len n ps ≡ 0) where
-  pub pixels-writable : Writable lo hi n len (length ps) (layout_of n).count
+  pub pixels_writable : Writable lo hi n len (length ps) (layout_of n).count
   unfolding put_pixels_answer
-  pixels-writable =
+  pixels_writable =
       let asked : ℕ = asked_of f lo hi n in
       let over : ℕ = over_of (2 ^ (layout_of n).width) (take (layout_of n).count ps) in
       let short : ℕ = input_short len (length ps) (layout_of n).count in
       writable f lo hi n len (length ps) (layout_of n).count (none_first asked (first over short) e) (none_second over short (none_second asked (first over short) e))
 
   -- no pixel is over its width
-  pub pixels-fit : Below (2 ^ (layout_of n).width) (take (layout_of n).count ps)
+  pub pixels_fit : Below (2 ^ (layout_of n).width) (take (layout_of n).count ps)
   unfolding put_pixels_answer
-  pixels-fit =
+  pixels_fit =
       let asked : ℕ = asked_of f lo hi n in
       let over : ℕ = over_of (2 ^ (layout_of n).width) (take (layout_of n).count ps) in
       let short : ℕ = input_short len (length ps) (layout_of n).count in
@@ -62,10 +62,10 @@ module _ (lo hi f len n : ℕ) (ps : List ℕ) (e : put_pixels_answer lo hi f le
 -- ---- where the code has found the sector's row
 
 module _ (n : ℕ) {l : Layout} (found : l ≡ layout_of n) where
-  pub row-chain : (len : ℕ) (ps : List ℕ) {limit over short r : ℕ} → limit ≡ 2 ^ l.width → over ≡ over_of limit (take l.count ps)
+  pub row_chain : (len : ℕ) (ps : List ℕ) {limit over short r : ℕ} → limit ≡ 2 ^ l.width → over ≡ over_of limit (take l.count ps)
       → short ≡ input_short len (length ps) l.count → r ≡ first over short
       → r ≡ first (over_of (2 ^ (layout_of n).width) (take (layout_of n).count ps)) (input_short len (length ps) (layout_of n).count)
-  row-chain len ps el eo es e =
+  row_chain len ps el eo es e =
       e ∙ ap₂ first (eo ∙ ap (λ (m : ℕ). over_of m (take l.count ps)) el) es
       ∙ ap (λ (l : Layout). first (over_of (2 ^ l.width) (take l.count ps)) (input_short len (length ps) l.count)) found
 
@@ -73,4 +73,4 @@ module _ (n : ℕ) {l : Layout} (found : l ≡ layout_of n) where
   pub ready : (size : Layout → ℕ) {lo hi len given : ℕ} → 1 ≤ lo → hi ≤ 12 → Writable lo hi n len given (size (layout_of n)) → Sound l × (line_bytes ≤ len) × (size l ≤ given)
   ready size {len = len} {given = given} one top h =
       subst (λ (l : Layout). Sound l × (line_bytes ≤ len) × (size l ≤ given)) (sym found)
-      (sound n (omega (arith, one, h.low)) (omega (arith, top, h.high)), h.long, h.given-all)
+      (sound n (omega (arith, one, h.low)) (omega (arith, top, h.high)), h.long, h.given_all)

@@ -30,9 +30,9 @@ module _ (b sync l : List ℕ) (s i d : ℕ) (sync-long : length sync ≡ s) (li
   plain : List ℕ
   plain = l ++ replicate d 0
 
-  plain-long : length plain ≡ i + d
+  plain_long : length plain ≡ i + d
   unfolding plain
-  plain-long = length-append l (replicate d 0) ∙ ap₂ (λ (x y : ℕ). x + y) line-long (length-replicate d 0)
+  plain_long = length-append l (replicate d 0) ∙ ap₂ (λ (x y : ℕ). x + y) line-long (length-replicate d 0)
 
   -- what stands there once line and dummy are on the wire
   pub mixed_down : (o : List ℕ) → bits_of o ≡ ((sync ++ l) ++ replicate d 0) ++ drop (s + i + d) b
@@ -45,9 +45,9 @@ module _ (b sync l : List ℕ) (s i d : ℕ) (sync-long : length sync ≡ s) (li
       e ∙ ap (λ (x : List ℕ). x ++ rest) (append_assoc sync l (replicate d 0)) ∙ append_assoc sync (l ++ replicate d 0) rest in
       let front : take s (bits_of o) ≡ sync = ap (take s) cut ∙ take_at sync ((l ++ replicate d 0) ++ rest) s sync-long in
       let behind : drop s (bits_of o) ≡ (l ++ replicate d 0) ++ rest = ap (drop s) cut ∙ drop_at sync ((l ++ replicate d 0) ++ rest) s sync-long in
-      let middle : take (i + d) (drop s (bits_of o)) ≡ l ++ replicate d 0 = ap (take (i + d)) behind ∙ take_at (l ++ replicate d 0) rest (i + d) plain-long in
+      let middle : take (i + d) (drop s (bits_of o)) ≡ l ++ replicate d 0 = ap (take (i + d)) behind ∙ take_at (l ++ replicate d 0) rest (i + d) plain_long in
       let back : drop (s + (i + d)) (bits_of o) ≡ rest =
-      sym (drop-drop (i + d) s (bits_of o)) ∙ ap (drop (i + d)) behind ∙ drop_at (l ++ replicate d 0) rest (i + d) plain-long in
+      sym (drop-drop (i + d) s (bits_of o)) ∙ ap (drop (i + d)) behind ∙ drop_at (l ++ replicate d 0) rest (i + d) plain_long in
       let wire : wire_of 0 fifteen_ones (take (i + d) (drop s (bits_of o))) ≡ wire_of 0 fifteen_ones l ++ wire_of i (register_after i fifteen_ones) (replicate d 0) =
       ap (wire_of 0 fifteen_ones) middle ∙ wire_append 0 fifteen_ones l (replicate d 0)
       ∙ ap₂ (λ (x y : ℕ). wire_of 0 fifteen_ones l ++ wire_of x (register_after y fifteen_ones) (replicate d 0)) (zero-add (length l) ∙ line-long) line-long in
@@ -76,8 +76,8 @@ laid n r f line o₀ o₁ o₂ o₃ o₄ known whole er e₁ e₂ e₃ e₄ =
     let d : ℕ = f.dummy in
     let b : List ℕ = bits_of o₀ in
     let l : List ℕ = bits_of (take line_bytes line) in
-    let s8 : s / 8 * 8 ≡ s = sym p.sync-whole in
-    let d8 : d / 8 * 8 ≡ d = sym p.dummy-whole in
+    let s8 : s / 8 * 8 ≡ s = sym p.sync_whole in
+    let d8 : d / 8 * 8 ≡ d = sym p.dummy_whole in
     let sync-long : length (SYNC s) ≡ s = ap length (sym (sync_from n f known)) ∙ length_scrambling s _ in
     let line-long : length l ≡ information_bits = length_bits (take line_bytes line) ∙ ap (λ (k : ℕ). 8 * k) (length-take-le line_bytes line whole) in
     let both_long : length (SYNC s ++ l) ≡ s + information_bits = length-append (SYNC s) l ∙ ap₂ (λ (x y : ℕ). x + y) sync-long line-long in

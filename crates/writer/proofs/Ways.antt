@@ -61,7 +61,7 @@ wire_whole n f line e h =
     let p = parts n f e in
     length_on_wire f (bits_of (take line_bytes line))
     ∙ ap (λ (i : ℕ). f.sync + i + f.dummy) (line_bits line h)
-    ∙ omega (arith, p.sync-whole, p.dummy-whole, p.all)
+    ∙ omega (arith, p.sync_whole, p.dummy_whole, p.all)
 
 -- ---- the ways
 
@@ -77,9 +77,9 @@ module _ (n : ℕ) (line out : List ℕ) where
   unfolding write_line_left
   turned_away r e h = (says_some settled.written r refusal _ e h, sym (kept_some refusal out _ (λ z. h (e ∙ z))))
 
-  pub write-unknown : (k : ℕ) → format_of n ≡ Refused k → Gives (written.Refused k) out
+  pub write_unknown : (k : ℕ) → format_of n ≡ Refused k → Gives (written.Refused k) out
   unfolding write_line_refusal
-  write-unknown k e = let some = some_number n k e in turned_away k (refused k (format_refusal n) _ (sym (is_unknown n k e)) some) some
+  write_unknown k e = let some = some_number n k e in turned_away k (refused k (format_refusal n) _ (sym (is_unknown n k e)) some) some
 
   module _ (f : Format) (e : format_of n ≡ Is f) (r : ℕ) (short : r ≡ first (short_of (length line) line_bytes 2) (short_of (length out) f.bytes 3)) where
     number : r ≡ refusal
@@ -89,18 +89,18 @@ module _ (n : ℕ) (line out : List ℕ) where
         ∙ ap (λ (g : Format). first (short_of (length line) line_bytes 2) (short_of (length out) g.bytes 3)) (sym (named_by_is n f e))
         ∙ sym (first_none (format_refusal n) _ (is_known n f e))
 
-    pub write-short : (r ≡ 0 → ⊥) → Gives (written.Refused r) out
-    write-short = turned_away r number
+    pub write_short : (r ≡ 0 → ⊥) → Gives (written.Refused r) out
+    write_short = turned_away r number
 
     module _ (z : r ≡ 0) where
       none : first (short_of (length line) line_bytes 2) (short_of (length out) f.bytes 3) ≡ 0
       none = sym short ∙ z
 
-      pub line-whole : line_bytes ≤ length line
-      line-whole = enough (length line) line_bytes 2 (λ w. omega arith) (none_first _ _ none)
+      pub line_whole : line_bytes ≤ length line
+      line_whole = enough (length line) line_bytes 2 (λ w. omega arith) (none_first _ _ none)
 
-      pub output-room : f.bytes ≤ length out
-      output-room = enough (length out) f.bytes 3 (λ w. omega arith) (none_second _ _ none)
+      pub output_room : f.bytes ≤ length out
+      output_room = enough (length out) f.bytes 3 (λ w. omega arith) (none_second _ _ none)
 
       pub write_done : (after : List ℕ) → Below 256 out → Below 256 after
           → bits_of after ≡ on_wire f (bits_of (take line_bytes line)) ++ drop (f.bytes * 8) (bits_of out) → Gives (written.Put f.bytes) after
@@ -109,7 +109,7 @@ module _ (n : ℕ) (line out : List ℕ) where
           let named = sym (named_by_is n f e) in
           let bits : List ℕ = on_wire f (bits_of (take line_bytes line)) in
           let bytes : after ≡ wire_bytes f line ++ drop f.bytes out =
-          bytes_front f.bytes after bits (drop f.bytes out) b' (below_drop 256 f.bytes out b) (wire_whole n f line e line-whole) (on_wire_below f _)
+          bytes_front f.bytes after bits (drop f.bytes out) b' (below_drop 256 f.bytes out b) (wire_whole n f line e line_whole) (on_wire_below f _)
           (w ∙ ap (λ (l : List ℕ). bits ++ l) (bits_drop out f.bytes)) in (
             says_none settled.written r refusal _ _ number z (ap (λ (g : Format). g.bytes) named),
             bytes ∙ ap (λ (g : Format). wire_bytes g line ++ drop g.bytes out) named ∙ sym (kept_none refusal out _ (sym number ∙ z)),

@@ -7,7 +7,7 @@ use native.Mathlib.Omega.{arith}
 use Rattle.desk_record.specs.declared.Desk.{Desk}
 use Rattle.desk_record.specs.Slots.{slot_of, is_free, serial_of}
 use Rattle.desk_record.specs.Desks.{busy_from, possible_from}
-use Rattle.desk_whole.proofs.Checks.{alone_from, possible-unsound, possible-twice, possible-on, possible-none}
+use Rattle.desk_whole.proofs.Checks.{alone_from, possible_unsound, possible_twice, possible_on, possible_none}
 use Rattle.desk_whole.proofs.possible.Goals as goal
 
 -- what the call of `alone` says, with the slots left counted as the loop counts them
@@ -29,7 +29,7 @@ bounds-d-i c = omega arith
 
 pub returns-then-not-sound : goal.returns-then-not-sound
 returns-then-not-sound c =
-    sym (c.loop-i.invariant.1 ∙ possible-unsound _ _ _ c.loop-i.i (omega arith) (sym c.sound.ensures ∙ c.if-not-sound.true))
+    sym (c.loop-i.invariant.1 ∙ possible_unsound _ _ _ c.loop-i.i (omega arith) (sym c.sound.ensures ∙ c.if-not-sound.true))
 
 pub alone-requires : goal.alone-requires
 alone-requires c = omega arith
@@ -37,7 +37,7 @@ alone-requires c = omega arith
 pub returns-then-not-alone : goal.returns-then-not-alone
 returns-then-not-alone c =
     sym (c.loop-i.invariant.1
-    ∙ possible-twice _ _ _ c.loop-i.i (omega arith) (sym c.sound.ensures ∙ c.if-not-sound.false)
+    ∙ possible_twice _ _ _ c.loop-i.i (omega arith) (sym c.sound.ensures ∙ c.if-not-sound.false)
     (alone_at c.args.d c.loop-i.i _ c.alone.ensures ∙ c.if-not-alone.true))
 
 pub overflow_add-i : goal.overflow_add-i
@@ -52,10 +52,10 @@ loop-i-preserved c =
     let z : d.count - c.loop-i.i - 1 ≡ d.count - (c.loop-i.i + 1) = omega arith in (
       omega arith,
       c.loop-i.invariant.1
-          ∙ possible-on _ _ _ c.loop-i.i (omega arith) (sym c.sound.ensures ∙ c.if-not-sound.false)
+          ∙ possible_on _ _ _ c.loop-i.i (omega arith) (sym c.sound.ensures ∙ c.if-not-sound.false)
           (alone_at d c.loop-i.i _ c.alone.ensures ∙ c.if-not-alone.false)
           ∙ ap (λ (k : ℕ). possible_from (slot_of d) d.last k (c.loop-i.i + 1)) z,
     )
 
 pub returns : goal.returns
-returns c = sym (c.loop-i.invariant.1 ∙ possible-none _ _ _ _ (omega arith))
+returns c = sym (c.loop-i.invariant.1 ∙ possible_none _ _ _ _ (omega arith))

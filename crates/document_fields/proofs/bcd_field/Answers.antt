@@ -7,7 +7,7 @@ use Rattle.numbers.proofs.Settled.{decimals}
 use Rattle.document_fields.specs.Fields.{field_refusal, bcd_field_refusal}
 use Rattle.document.proofs.Known.{from_place}
 use Rattle.document_fields.proofs.Served.{Served, served}
-use Rattle.document_fields.proofs.Readings.{bcd-read}
+use Rattle.document_fields.proofs.Readings.{bcd_read}
 use Rattle.refusals.proofs.Words.{refused}
 use Rattle.refusals.proofs.Says.{says_some}
 use Rattle.document_fields.proofs.bcd_field.Goals as goal
@@ -61,4 +61,4 @@ returns c =
     let tested : let a = c.args in c.field_refusal-refused.result ≡ field_refusal (outside_of 1 6 a.n 10) a.format a.line.now a.place a.n =
     let a = c.args in
     c.field_refusal-refused.ensures ∙ ap (λ (k : ℕ). field_refusal k a.format a.line.now a.place a.n) c.outside-form.ensures in
-    bcd-read _ _ _ _ _ (from_place _ _) _ (sym tested ∙ c.if-refused-ne0.false) c.read_bcd.ensures
+    bcd_read _ _ _ _ _ (from_place _ _) _ (sym tested ∙ c.if-refused-ne0.false) c.read_bcd.ensures

@@ -7,7 +7,7 @@ use Rattle.numbers.proofs.Settled.{integers}
 use Rattle.document_fields.specs.Fields.{field_refusal, integer_field_refusal}
 use Rattle.document.proofs.Known.{from_place}
 use Rattle.document_fields.proofs.Served.{Served, served}
-use Rattle.document_fields.proofs.Readings.{integer-read}
+use Rattle.document_fields.proofs.Readings.{integer_read}
 use Rattle.refusals.proofs.Says.{says_some}
 use Rattle.document_fields.proofs.integer_field.Goals as goal
 
@@ -60,4 +60,4 @@ returns c =
     let tested : let a = c.args in c.field_refusal-refused.result ≡ field_refusal (outside_of 1 4 a.n 10) a.format a.line.now a.place a.n =
     let a = c.args in
     c.field_refusal-refused.ensures ∙ ap (λ (k : ℕ). field_refusal k a.format a.line.now a.place a.n) c.outside-form.ensures in
-    integer-read _ _ _ _ _ (from_place _ _) _ (sym tested ∙ c.if-refused-ne0.false) c.read_integer.ensures
+    integer_read _ _ _ _ _ (from_place _ _) _ (sym tested ∙ c.if-refused-ne0.false) c.read_integer.ensures

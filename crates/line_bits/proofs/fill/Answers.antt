@@ -7,7 +7,7 @@ use native.Mathlib.Omega.{arith}
 use lib.Bits.{mask_lt}
 use lib.ListN.{length-set}
 use Rattle.scramble.proofs.Wire.{plain_lt}
-use Rattle.line_bits.proofs.Filling.{waiting_lt, plain_of, fills-wait, fills-store, fills-whole, fills-byte, fills-end, fills_here, fills_trans, fills_span, span_in}
+use Rattle.line_bits.proofs.Filling.{waiting_lt, plain_of, fills_wait, fills_store, fills_whole, fills_byte, fills_end, fills_here, fills_trans, fills_span, span_in}
 use Rattle.line_bits.proofs.fill.Goals as goal
 
 pub whole_bytes-begun-requires : goal.whole_bytes-begun-requires
@@ -41,13 +41,13 @@ pub returns-then-place : goal.returns-then-place
 returns-then-place c =
     let at_plain = c.before.before.before.before.before.before in
     let begun = fills_span (fills_here c.requires) c.whole_bytes-begun.ensures in
-    fills-whole (fills_trans begun (fills_trans c.loop-left.invariant c.loop-left-2.invariant.1)) c.mix_bit-plain.result.bit c.low.result
+    fills_whole (fills_trans begun (fills_trans c.loop-left.invariant c.loop-left-2.invariant.1)) c.mix_bit-plain.result.bit c.low.result
     (plain_of _ _ _ _ _ c.mix_bit-plain.ensures.1) c.low.ensures (omega (arith, at_plain.before)) c.if-place.true
 
 pub whole_bytes-span-requires : goal.whole_bytes-span-requires
 whole_bytes-span-requires c =
     let at_plain = c.before.before.before.before.before.before in
-    let stored = fills-store c.loop-left-2.invariant.1 c.mix_bit-plain.result.bit c.mix_bit-plain.result.next.bits
+    let stored = fills_store c.loop-left-2.invariant.1 c.mix_bit-plain.result.bit c.mix_bit-plain.result.next.bits
     (plain_of _ _ _ _ _ c.mix_bit-plain.ensures.1) c.mix_bit-plain.ensures.0 (omega (arith, at_plain.before)) c.if-place-eq7.true c.if-place.false in
     stored.ok
 
@@ -58,7 +58,7 @@ loop-left-2-smaller-then-place-eq7 c =
 pub loop-left-2-preserved-then-place-eq7 : goal.loop-left-2-preserved-then-place-eq7
 loop-left-2-preserved-then-place-eq7 c =
     let at_plain = c.before.before.before.before.before.before.before.before.before in
-    let stored = fills-store c.loop-left-2.invariant.1 c.mix_bit-plain.result.bit c.mix_bit-plain.result.next.bits
+    let stored = fills_store c.loop-left-2.invariant.1 c.mix_bit-plain.result.bit c.mix_bit-plain.result.next.bits
     (plain_of _ _ _ _ _ c.mix_bit-plain.ensures.1) c.mix_bit-plain.ensures.0 (omega (arith, at_plain.before)) c.if-place-eq7.true c.if-place.false in
     let span = c.whole_bytes-span.ensures in
     (omega (arith, c.loop-left-2.invariant.0, span.onward), fills_span stored span)
@@ -67,7 +67,7 @@ pub loop-left-2-preserved : goal.loop-left-2-preserved
 loop-left-2-preserved c =
     let at_plain = c.before.before.before.before in (
       c.loop-left-2.invariant.0,
-      fills-wait c.loop-left-2.invariant.1 c.mix_bit-plain.result.bit c.mix_bit-plain.result.next.bits
+      fills_wait c.loop-left-2.invariant.1 c.mix_bit-plain.result.bit c.mix_bit-plain.result.next.bits
           (plain_of _ _ _ _ _ c.mix_bit-plain.ensures.1) c.mix_bit-plain.ensures.0 (omega (arith, at_plain.before)) c.if-place-eq7.false,
     )
 
@@ -79,7 +79,7 @@ shape_of-line-then-at-piece c =
 pub returns-then-at-piece : goal.returns-then-at-piece
 returns-then-at-piece c =
     let begun = fills_span (fills_here c.requires) c.whole_bytes-begun.ensures in
-    fills-end (fills_trans begun (fills_trans c.loop-left.invariant c.loop-left-2.invariant.1)) (omega arith) c.if-at-piece.true
+    fills_end (fills_trans begun (fills_trans c.loop-left.invariant c.loop-left-2.invariant.1)) (omega arith) c.if-at-piece.true
 
 pub loop-left-preserved : goal.loop-left-preserved
-loop-left-preserved c = fills-byte (fills_trans c.loop-left.invariant c.loop-left-2.invariant.1) (omega arith) (omega arith)
+loop-left-preserved c = fills_byte (fills_trans c.loop-left.invariant c.loop-left-2.invariant.1) (omega arith) (omega arith)

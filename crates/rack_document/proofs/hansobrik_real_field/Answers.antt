@@ -1,8 +1,8 @@
 -- `rack_document::hansobrik_real_field` meets its contract. Assumes nothing.
 use mathlib.Core.Path.{ap, ◌∙◌}
-use Rattle.document_fields.proofs.Settled.{real-field-is}
+use Rattle.document_fields.proofs.Settled.{real_field_is}
 use Rattle.rack_number.specs.Number.{real_given}
 use Rattle.rack_document.proofs.hansobrik_real_field.Goals as goal
 
 pub returns : goal.returns
-returns c = c.real_given.ensures ∙ ap real_given (real-field-is _ _ _ _ _ _ c.real_field.ensures)
+returns c = c.real_given.ensures ∙ ap real_given (real_field_is _ _ _ _ _ _ c.real_field.ensures)

@@ -1,8 +1,8 @@
 -- `rack_document::hansobrik_scan_mode` meets its contract. Assumes nothing.
 use mathlib.Core.Path.{ap, ◌∙◌}
-use Rattle.document.proofs.Settled.{scan-mode-is}
+use Rattle.document.proofs.Settled.{scan_mode_is}
 use Rattle.rack_document.specs.Documentation.{scan_given}
 use Rattle.rack_document.proofs.hansobrik_scan_mode.Goals as goal
 
 pub returns : goal.returns
-returns c = c.scan_given.ensures ∙ ap scan_given (scan-mode-is _ _ _ c.scan_mode.ensures)
+returns c = c.scan_given.ensures ∙ ap scan_given (scan_mode_is _ _ _ c.scan_mode.ensures)

@@ -2,8 +2,8 @@
 use mathlib.Core.Path.{sym, ◌∙◌}
 use native.Mathlib.Omega.{arith}
 use lib.ListN.{length}
-use Rattle.reader_record.proofs.Checked.{facts, counts-true-in}
-use Rattle.reader.proofs.Ways.{Admitted, admitted, read_refused, read_none, read-call, call-in, call-out, call_as, sought_none, sought_found, fill_found, fill_in}
+use Rattle.reader_record.proofs.Checked.{facts, counts_true_in}
+use Rattle.reader.proofs.Ways.{Admitted, admitted, read_refused, read_none, read_call, call_in, call_out, call_as, sought_none, sought_found, fill_found, fill_in}
 use Rattle.reader.proofs.read.Goals as goal
 
 pub returns-then-refused-ne0 : goal.returns-then-refused-ne0
@@ -27,9 +27,9 @@ returns-then-state c =
     let known : Admitted c.args.setting c.args.state (length c.args.line.now) =
     admitted _ _ _ _ (sym c.read_refusal-refused.ensures ∙ c.if-refused-ne0.false) in
     let args = c.args in
-    read-call args.format args.setting args.state args.piece.now args.line.now _ c.read_refusal-refused.ensures c.if-refused-ne0.false c.if-piece-eq0.false
+    read_call args.format args.setting args.state args.piece.now args.line.now _ c.read_refusal-refused.ensures c.if-refused-ne0.false c.if-piece-eq0.false
     (call_as (c.to_line.ensures.at args.setting)
-    (call-in args.setting args.state args.piece.now args.line.now c.if-piece-eq0.false c.if-state.true (counts-true-in args.state c.if-state.true (facts args.state known.possible).counts).1))
+    (call_in args.setting args.state args.piece.now args.line.now c.if-piece-eq0.false c.if-state.true (counts_true_in args.state c.if-state.true (facts args.state known.possible).counts).1))
 
 pub seek-requires : goal.seek-requires
 seek-requires c =
@@ -46,13 +46,13 @@ to_line-requires-in-Found c =
 pub returns-in-Nothing : goal.returns-in-Nothing
 returns-in-Nothing c =
     let args = c.args in
-    read-call args.format args.setting args.state args.piece.now args.line.now _ c.read_refusal-refused.ensures c.if-refused-ne0.false c.if-piece-eq0.false
+    read_call args.format args.setting args.state args.piece.now args.line.now _ c.read_refusal-refused.ensures c.if-refused-ne0.false c.if-piece-eq0.false
     (call_as (sought_none args.line.now c.seek.ensures c.in-Nothing.is c.between.ensures)
-    (call-out args.setting args.state args.piece.now args.line.now c.if-piece-eq0.false c.if-state.false))
+    (call_out args.setting args.state args.piece.now args.line.now c.if-piece-eq0.false c.if-state.false))
 
 pub returns-in-Found : goal.returns-in-Found
 returns-in-Found c =
     let args = c.args in
-    read-call args.format args.setting args.state args.piece.now args.line.now _ c.read_refusal-refused.ensures c.if-refused-ne0.false c.if-piece-eq0.false
+    read_call args.format args.setting args.state args.piece.now args.line.now _ c.read_refusal-refused.ensures c.if-refused-ne0.false c.if-piece-eq0.false
     (call_as (c.to_line-in-Found.ensures.at args.setting)
-    (call-out args.setting args.state args.piece.now args.line.now c.if-piece-eq0.false c.if-state.false ∙ sought_found args.line.now c.seek.ensures c.in-Found.is))
+    (call_out args.setting args.state args.piece.now args.line.now c.if-piece-eq0.false c.if-state.false ∙ sought_found args.line.now c.seek.ensures c.in-Found.is))

@@ -11,7 +11,7 @@ use Rattle.report_record.specs.declared.Report.{Report}
 use Rattle.report_record.specs.Report.{report_by, report_of, added, Plain}
 use Rattle.report_record.specs.Possible.{possible_report}
 use Rattle.report.specs.Calls.{with_line_answer}
-use Rattle.report_line.proofs.Passing.{report-passes}
+use Rattle.report_line.proofs.Passing.{report_passes}
 use Rattle.report.proofs.Answers.{reported_refused, reported_done, LineServed, line_served}
 use Rattle.report.proofs.with_line.Goals as goal
 
@@ -32,7 +32,7 @@ add-both-requires c =
     line_served _ _ _ (sym c.with_line_refusal-refused.ensures ∙ c.if-refused-ne0.false) in
     let a = c.args in
     let b = bits_of a.line.now in
-    (knows.one, subst (λ (x : Report). possible_report x ≡ true) (sym c.line_report-one.ensures) (report-passes _ (b ∷ []) (bits_below a.line.now, tt) (omega arith)))
+    (knows.one, subst (λ (x : Report). possible_report x ≡ true) (sym c.line_report-one.ensures) (report_passes _ (b ∷ []) (bits_below a.line.now, tt) (omega arith)))
 
 pub returns : goal.returns
 unfolding with_line_answer report_of

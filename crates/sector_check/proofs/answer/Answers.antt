@@ -3,7 +3,7 @@ use mathlib.Core.Path.{◌≡◌, sym, ◌∙◌}
 use Rattle.bits.specs.Bits.{bits_of, part}
 use Rattle.crc_step.specs.Remainder.{remainder_of}
 use Rattle.sector_check.specs.Sector.{covered_of}
-use Rattle.sector_check.proofs.Answers.{answer-five, answer-six, answer-none, id_part}
+use Rattle.sector_check.proofs.Answers.{answer_five, answer_six, answer_none, id_part}
 use Rattle.sector_check.proofs.answer.Goals as goal
 
 pub returns-then-remainder-ne0 : goal.returns-then-remainder-ne0
@@ -12,7 +12,7 @@ returns-then-remainder-ne0 c =
     let read : let a = c.args in c.remainder.result ≡ remainder_of a.start (covered_of a.l (bits_of a.line.now)) =
     c.remainder.ensures in
     let a = c.args in
-    answer-five a.start a.l (bits_of a.line.now) (λ z. c.if-remainder-ne0.true (read ∙ z))
+    answer_five a.start a.l (bits_of a.line.now) (λ z. c.if-remainder-ne0.true (read ∙ z))
 
 pub returns-then-field-l : goal.returns-then-field-l
 unfolding covered_of part
@@ -20,7 +20,7 @@ returns-then-field-l c =
     let read : let a = c.args in c.remainder.result ≡ remainder_of a.start (covered_of a.l (bits_of a.line.now)) =
     c.remainder.ensures in
     let a = c.args in
-    answer-six a.start a.l (bits_of a.line.now)
+    answer_six a.start a.l (bits_of a.line.now)
     (sym read ∙ c.if-remainder-ne0.false)
     (λ z. c.if-field-l.true (c.field.ensures.0 ∙ id_part a.l a.line.now ∙ z))
 
@@ -30,6 +30,6 @@ returns c =
     let read : let a = c.args in c.remainder.result ≡ remainder_of a.start (covered_of a.l (bits_of a.line.now)) =
     c.remainder.ensures in
     let a = c.args in
-    answer-none a.start a.l (bits_of a.line.now)
+    answer_none a.start a.l (bits_of a.line.now)
     (sym read ∙ c.if-remainder-ne0.false)
     (sym (c.field.ensures.0 ∙ id_part a.l a.line.now) ∙ c.if-field-l.false)

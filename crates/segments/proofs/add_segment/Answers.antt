@@ -9,7 +9,7 @@ use Rattle.document.specs.Segments.{sub_number, sub_segment}
 use Rattle.blocks.proofs.Rows.{sound}
 use Rattle.segments.specs.Assembly.{segment_in, carried_refusal, add_segment_refusal, add_segment_left}
 use Rattle.segments.proofs.Known.{carries}
-use Rattle.segments.proofs.Settled.{added_kind, added-told}
+use Rattle.segments.proofs.Settled.{added_kind, added_told}
 use Rattle.segments.proofs.add_segment.Goals as goal
 
 pub place-requires : goal.place-requires
@@ -29,7 +29,7 @@ returns-in-Is c =
     let is-segment : let a = c.args in c.in-Is.segment ≡ segment_in a.line.now =
     ap sub_segment (sym c.in-Is.is) ∙ ap (λ (v : ℕ × ℕ). v.0) (c.carried.ensures.1 ∙ kept_none _ _ _ is_carried) in
     let a = c.args in
-    added-told a.format a.assembly a.line.now a.number a.block.now is_carried _ is-segment _ _ c.place.ensures
+    added_told a.format a.assembly a.line.now a.number a.block.now is_carried _ is-segment _ _ c.place.ensures
 
 pub returns-in-Refused : goal.returns-in-Refused
 unfolding add_segment_refusal add_segment_left

@@ -4,7 +4,7 @@ use Rattle.blocks.specs.declared.block.Block.{Block}
 use Rattle.blocks.specs.declared.assembly.Revisions.{Revisions}
 use Rattle.revisions.specs.Carried.{revisions_in, remembered}
 use Rattle.copies.specs.Copies.{Placeable, place_refusal}
-use Rattle.segments.proofs.Known.{placed-refused, placed-again, placed-new}
+use Rattle.segments.proofs.Known.{placed_refused, placed_again, placed_new}
 use Rattle.segments.proofs.place.Goals as goal
 
 pub revisions_in-carried-requires : goal.revisions_in-carried-requires
@@ -19,7 +19,7 @@ returns-then-refused-ne0 c =
     let a = c.args in
     c.place_refusal-refused.ensures
     ∙ ap (λ (r : Revisions). place_refusal a.number a.assembly r a.line.now a.segment a.block.now) c.revisions_in-carried.ensures in
-    placed-refused _ _ _ _ _ _ refusal c.if-refused-ne0.true
+    placed_refused _ _ _ _ _ _ refusal c.if-refused-ne0.true
 
 pub is_marked-requires : goal.is_marked-requires
 is_marked-requires c = c.requires.small
@@ -34,7 +34,7 @@ returns-then-is_marked c =
     let a = c.args in
     let told : c.remembered-revisions.result ≡ remembered a.assembly c.revisions_in-carried.result = c.remembered-revisions.ensures in
     told ∙ ap (remembered a.assembly) c.revisions_in-carried.ensures in
-    placed-again _ _ _ _ _ _ refusal _ c.if-refused-ne0.false (sym c.is_marked.ensures ∙ c.if-is_marked.true) from-now-on
+    placed_again _ _ _ _ _ _ refusal _ c.if-refused-ne0.false (sym c.is_marked.ensures ∙ c.if-is_marked.true) from-now-on
 
 pub store-requires : goal.store-requires
 store-requires c =
@@ -54,4 +54,4 @@ returns c =
     let a = c.args in
     let told : c.remembered-revisions.result ≡ remembered a.assembly c.revisions_in-carried.result = c.remembered-revisions.ensures in
     told ∙ ap (remembered a.assembly) c.revisions_in-carried.ensures in
-    placed-new _ _ _ _ _ _ refusal _ _ _ _ c.if-refused-ne0.false (sym c.is_marked.ensures ∙ c.if-is_marked.false) from-now-on c.with_mark.ensures c.store.ensures c.block_of.ensures
+    placed_new _ _ _ _ _ _ refusal _ _ _ _ c.if-refused-ne0.false (sym c.is_marked.ensures ∙ c.if-is_marked.false) from-now-on c.with_mark.ensures c.store.ensures c.block_of.ensures

@@ -5,7 +5,7 @@ use Prim.Native.Nat.{◌-◌, ◌/◌, ◌^◌, ◌≤◌}
 use native.Mathlib.Omega.{arith}
 use lib.Bits.{mask_lt}
 use Rattle.reader_bits.proofs.Masks.{bit_and_is, under_63}
-use Rattle.tail_search.proofs.Searching.{way-short, way-miss, way-hit, way-byte, way-whole, way-passed, way_end, under_56}
+use Rattle.tail_search.proofs.Searching.{way_short, way_miss, way_hit, way_byte, way_whole, way_passed, way_end, under_56}
 use Rattle.tail_search.proofs.seek.Goals as goal
 
 pub overflow_cast-b : goal.overflow_cast-b
@@ -19,12 +19,12 @@ overflow_add-w c =
     omega (arith, under_63 _ _ c.loop-left.invariant.count c.loop-left.invariant.small, mask_lt (c.seek.byte / 2 ^ (c.loop-left.left - 1)) 1)
 
 pub loop-left-preserved-then-count-lt63 : goal.loop-left-preserved-then-count-lt63
-loop-left-preserved-then-count-lt63 c = way-short c.loop-left.invariant _ (bit_and_is _ _) (omega (arith, c.before.before)) (omega arith)
+loop-left-preserved-then-count-lt63 c = way_short c.loop-left.invariant _ (bit_and_is _ _) (omega (arith, c.before.before)) (omega arith)
 
 pub loop-left-preserved : goal.loop-left-preserved
 loop-left-preserved c =
     let at_test = c.before.before in
-    way-miss c.loop-left.invariant _ (bit_and_is _ _) (omega (arith, at_test.before.before)) (omega (arith, at_test.before)) (sym c.counts_as_tail.ensures ∙ c.if-counts_as_tail.false)
+    way_miss c.loop-left.invariant _ (bit_and_is _ _) (omega (arith, at_test.before.before)) (omega (arith, at_test.before)) (sym c.counts_as_tail.ensures ∙ c.if-counts_as_tail.false)
 
 pub pass_over-passed-requires : goal.pass_over-passed-requires
 pass_over-passed-requires c =
@@ -34,7 +34,7 @@ pass_over-passed-requires c =
 pub returns-then-at-piece : goal.returns-then-at-piece
 returns-then-at-piece c =
     let after = c.before.before.before in
-    let done = way-passed c.loop-left.invariant c.pass_over-passed.result (omega (arith, after)) c.pass_over-passed.ensures in
+    let done = way_passed c.loop-left.invariant c.pass_over-passed.result (omega (arith, after)) c.pass_over-passed.ensures in
     way_end done (omega (arith, after)) c.if-at-piece.true
 
 pub overflow_mul-search : goal.overflow_mul-search
@@ -59,8 +59,8 @@ pub seek-preserved-then-count-lt56 : goal.seek-preserved-then-count-lt56
 seek-preserved-then-count-lt56 c =
     let at-known = c.before.before in
     let after = c.before.before.before.before.before in
-    let done = way-passed c.loop-left.invariant c.pass_over-passed.result (omega (arith, after)) c.pass_over-passed.ensures in
-    way-whole done _ refl (c.shared_slice_known-in-seek-1.given c.pass_over-passed.result.taken).fits (omega (arith, after)) (omega (arith, at-known.before)) (omega (arith, c.before))
+    let done = way_passed c.loop-left.invariant c.pass_over-passed.result (omega (arith, after)) c.pass_over-passed.ensures in
+    way_whole done _ refl (c.shared_slice_known-in-seek-1.given c.pass_over-passed.result.taken).fits (omega (arith, after)) (omega (arith, at-known.before)) (omega (arith, c.before))
 
 pub seek-smaller : goal.seek-smaller
 seek-smaller c =
@@ -70,10 +70,10 @@ pub seek-preserved : goal.seek-preserved
 seek-preserved c =
     let at-known = c.before.before in
     let after = c.before.before.before.before.before in
-    let done = way-passed c.loop-left.invariant c.pass_over-passed.result (omega (arith, after)) c.pass_over-passed.ensures in
-    way-byte done (omega (arith, after)) (omega (arith, at-known.before))
+    let done = way_passed c.loop-left.invariant c.pass_over-passed.result (omega (arith, after)) c.pass_over-passed.ensures in
+    way_byte done (omega (arith, after)) (omega (arith, at-known.before))
 
 pub returns : goal.returns
 returns c =
     let at_test = c.before.before in
-    way-hit c.loop-left.invariant _ (bit_and_is _ _) (omega (arith, at_test.before.before)) (omega (arith, at_test.before)) (sym c.counts_as_tail.ensures ∙ c.if-counts_as_tail.true)
+    way_hit c.loop-left.invariant _ (bit_and_is _ _) (omega (arith, at_test.before.before)) (omega (arith, at_test.before)) (sym c.counts_as_tail.ensures ∙ c.if-counts_as_tail.true)

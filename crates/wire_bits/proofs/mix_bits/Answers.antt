@@ -13,7 +13,7 @@ use Rattle.scramble.specs.Register.{register_after}
 use Rattle.scramble.specs.Wire.{plain_bit}
 use Rattle.scramble.proofs.Wire.{plain_lt}
 use Rattle.scramble.proofs.Turn.{register_turn}
-use Rattle.wire_bits.proofs.Target.{target, target_is, target-length, target_at}
+use Rattle.wire_bits.proofs.Target.{target, target_is, target_length, target_at}
 use Rattle.wire_bits.proofs.mix_bits.Goals as goal
 
 pub loop-i-init : goal.loop-i-init
@@ -42,7 +42,7 @@ loop-i-preserved c =
     let target₀ = target s₀ args.from args.count args.place r in
     let more : i < args.count = c.loop-i-test.true in
     let in-bits : args.from + i < length (bits_of s₀) = rw length_bits (omega (arith, c.requires.0)) in
-    let in-target : i < length target₀ = rw (target-length s₀ args.from args.count args.place r c.requires.0) more in
+    let in-target : i < length target₀ = rw (target_length s₀ args.from args.count args.place r c.requires.0) more in
     let here : b ≡ get_or (bits_of s₀) (args.from + i) 0 = cc (paste_next (bits_of s₀) args.from target₀ i in-bits in-target) in
     let value : t ≡ get_or target₀ i 0 = target_at s₀ args.from args.count args.place r c.requires.0 i b t more here
     (c.mix_bit-t.ensures.1 ∙ ap (λ (x : ℕ). plain_bit (args.place + i) x b) c.loop-i.invariant.3) in
@@ -55,5 +55,5 @@ returns c =
     let s₀ = args.s.now in
     let past : c.loop-i.i ≡ args.count = omega arith in
     let done = paste_done (bits_of s₀) args.from (target s₀ args.from args.count args.place args.r.bits) args.count
-    (target-length s₀ args.from args.count args.place args.r.bits c.requires.0) in
+    (target_length s₀ args.from args.count args.place args.r.bits c.requires.0) in
     (cc (past, done, target_is s₀ args.from args.count args.place args.r.bits), cc past)

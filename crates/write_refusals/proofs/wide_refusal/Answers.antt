@@ -9,7 +9,7 @@ use Rattle.sector_table.specs.declared.layout.Layout.{Layout}
 use Rattle.sector_table.proofs.Admitted.{served}
 use Rattle.sector_table.proofs.Table.{sound}
 use Rattle.write_refusals.specs.Refusing.{put_pixels_answer}
-use Rattle.write_refusals.proofs.Writable.{row-chain}
+use Rattle.write_refusals.proofs.Writable.{row_chain}
 use Rattle.write_refusals.proofs.wide_refusal.Goals as goal
 
 pub returns-then-refused-ne0 : goal.returns-then-refused-ne0
@@ -35,4 +35,4 @@ unfolding put_pixels_answer
 returns c =
     let a = c.args in
     passed _ _ _ _ c.asked-refused.ensures c.if-refused-ne0.false
-    (row-chain a.sector c.layout_of-l.ensures a.length a.pixels.now c.limit_of.ensures c.over_wide.ensures c.input_short.ensures c.first.ensures)
+    (row_chain a.sector c.layout_of-l.ensures a.length a.pixels.now c.limit_of.ensures c.over_wide.ensures c.input_short.ensures c.first.ensures)

@@ -6,7 +6,7 @@ use lib.ListN.{take, drop}
 use Rattle.bits.specs.Bits.{stretch}
 use Rattle.sector_table.specs.Place.{doc_part}
 use Rattle.document_stamps.specs.Stamps.{stamp_of}
-use Rattle.document_stamps.proofs.Stamped.{two_copies, count-length}
+use Rattle.document_stamps.proofs.Stamped.{two_copies, count_length}
 use Rattle.document_stamps.proofs.stamp.stamp_of.Goals as goal
 
 pub returns : goal.returns
@@ -14,4 +14,4 @@ unfolding stamp_of doc_part
 returns c =
     let line = c.args.line.now in
     let out = c.args.out.now in
-    c.copy-2.ensures ∙ ap (λ (l : List ℕ). take 2 l ++ stretch line 19 8 ++ drop 10 l) c.copy.ensures ∙ two_copies out (stretch line 10 2) (stretch line 19 8) (count-length line c.requires.0)
+    c.copy-2.ensures ∙ ap (λ (l : List ℕ). take 2 l ++ stretch line 19 8 ++ drop 10 l) c.copy.ensures ∙ two_copies out (stretch line 10 2) (stretch line 19 8) (count_length line c.requires.0)
