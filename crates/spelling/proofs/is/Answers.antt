@@ -1,6 +1,5 @@
 -- `spelling::is` meets its contract. Assumes nothing.
 use mathlib.Core.Path.{sym, ◌∙◌, ap, ap₂}
-use native.Mathlib.Omega.{arith}
 use Rattle.bits.specs.Bits.{same, stretch}
 use Rattle.spelling.proofs.Laws.{not_same, all_of}
 use Rattle.spelling.proofs.is.Goals as goal
