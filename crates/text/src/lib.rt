@@ -135,10 +135,10 @@ impl Row {
     }
 }
 
-// The first n bytes to a stream.
+// The first n bytes to a stream; where there are fewer nothing is written, and that is a failure that the system has no text for.
 fn send(to: &impl Print, bytes: &[u8], n: usize) -> io::Result<()> {
     if bytes.len() < n {
-        return Ok(());
+        return Err(io::Error::from_raw_os_error(0));
     }
     to.write_all(&bytes[..n])
 }
