@@ -591,7 +591,7 @@ pub const EDITS: &[Edit] = &[
         ],
     ),
     texts(
-        &[(ORDERS, "pub put-real :", "pub put-reals :")],
+        &[(ORDERS, "pub put_real :", "pub put_reals :")],
         &["Orders has no row for hansobrik_put_real"],
     ),
     // sizes, names, the version
