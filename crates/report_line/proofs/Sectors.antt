@@ -5,6 +5,7 @@ use mathlib.Core.List.{List, [], ◌∷◌}
 use Prim.Native.Nat.{ℕ, suc, ◌+◌, ◌*◌, ◌≤◌, ◌<◌}
 use native.Mathlib.Omega.{arith}
 use lib.Dec.{eqb}
+use borrow.Author.Tests.{ne_eqb}
 use lib.ListN.{length, get_or, drop}
 use Rattle.refusals.specs.Refusals.{when}
 use Rattle.formats.specs.Formats.{line_bytes}
@@ -21,13 +22,17 @@ use Rattle.report_record.specs.declared.Channel.{Channel}
 use Rattle.report_record.specs.Sums.{total_of, row_of}
 use Rattle.report_record.specs.Report.{lines_answering, tally_of, given, accepts, pair_pixels, wide_pixels, ir_pixels, pixels_in, channel_of, report_by, no_tally, no_channel}
 use Rattle.report_record.proofs.Adding.{channel_none, row_one}
-use Rattle.report_record.proofs.Rows.{row_at}
+use Rattle.report_record.proofs.Rows.{row_at, and_fails}
 
 -- ---- the pixels of a channel of one line, accepted or not
 
 pub given_none : (t : Bool) (xs : List ℕ) → t ≡ false → no_channel ≡ channel_of (given t xs)
 unfolding given
 given_none t xs e = rw e (sym channel_none)
+
+-- a pair whose lower sector is not accepted
+pub lower_absent : (r : Channel) (u l : ℕ) (xs : List ℕ) → r ≡ no_channel → (l ≡ 1 → ⊥) → r ≡ channel_of (given (eqb u 1 && eqb l 1) xs)
+lower_absent r u l xs e ne = e ∙ given_none (eqb u 1 && eqb l 1) xs (and_fails (eqb u 1) (eqb l 1) (ne_eqb l 1 ne))
 
 pub given_some : (t : Bool) (xs : List ℕ) → t ≡ true → channel_of xs ≡ channel_of (given t xs)
 unfolding given

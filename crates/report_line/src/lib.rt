@@ -106,6 +106,7 @@ fn wide_run(line: &[u8], at: usize, n: usize) -> Channel
 }
 
 // Inner. IR1-3 of one line, with the tallies of its upper and its lower sector: no pixel where either is not accepted.
+#[tactic(auto, using(crate::proofs::Sectors::lower_absent))]
 pub fn pair_channel(upper: Tally, lower: Tally, channel: u8, line: &[u8]) -> Channel
     requires { (1 ≤ channel) × (channel ≤ 3) × (line_bytes ≤ length line.now) }
     ensures { result ≡ channel_of (given (eqb upper.accepted 1 && eqb lower.accepted 1) (joined_of (pixels_of (upper_of channel) (bits_of line.now)) (pixels_of (lower_of channel) (bits_of line.now)))) }
