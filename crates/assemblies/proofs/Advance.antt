@@ -8,7 +8,8 @@ use native.Mathlib.Omega.{arith}
 use lib.Dec.{eqb}
 use lib.ListN.{length, drop}
 use borrow.Author.Tests.{eqb-true, not-false}
-use Rattle.refusals.specs.Refusals.{answered, kept}
+use Rattle.std.specs.Prelude.{Ok}
+use Rattle.refusals.specs.Refusals.{answered, kept, refuses}
 use Rattle.refusals.proofs.Words.{none_first, none_second, none_when}
 use Rattle.bits.specs.Bits.{stretch, same}
 use Rattle.bits.proofs.Same.{same_eq}
@@ -21,7 +22,6 @@ use Rattle.blocks.specs.Record.{started, revision_of}
 use Rattle.blocks.proofs.Rows.{sound}
 use Rattle.revisions.specs.Carried.{revisions_in, foreign, foreign_refusal, remembered}
 use Rattle.revisions.proofs.Ways.{remembered_own}
-use Rattle.segments.specs.declared.Added.TheVariants.{Refused}
 use Rattle.segments.specs.Assembly.{marks_with, assembly_with, placed_on, block_with, segment_in, carried_refusal, add_segment_refusal, assembly_after, add_segment_answer, add_segment_left}
 use Rattle.copies.specs.Copies.{segment_of, differs, copy_refusal, place_refusal}
 use Rattle.segments.proofs.Known.{Carries, carries}
@@ -64,14 +64,14 @@ module _ (f n : ℕ) (a : State) (line : List ℕ) where
   unfolding add_segment_answer answered
   taken_none = by (add_segment_refusal f a.assembly line n a.block)
     where
-      by : (k : ℕ) → taken (answered Refused k (placed_on a.assembly line (segment_in line))) ≡ true → k ≡ 0
+      by : (k : ℕ) → taken (answered refuses k (Ok (placed_on a.assembly line (segment_in line)))) ≡ true → k ≡ 0
       by zero ok = refl
       by (suc k) ok = absurd (true≢false (sym ok))
 
   taken_after : add_segment_refusal f a.assembly line n a.block ≡ 0 → step f n a line ≡ After
   unfolding step add_segment_answer add_segment_left answered kept
   taken_after e =
-      let at : ℕ → State = λ k. record { assembly = assembly_after a.assembly (answered Refused k (placed_on a.assembly line (segment_in line))); block = kept k a.block (block_with (block_of n) a.assembly.marks line (segment_in line) a.block) } in
+      let at : ℕ → State = λ k. record { assembly = assembly_after a.assembly (answered refuses k (Ok (placed_on a.assembly line (segment_in line)))); block = kept k a.block (block_with (block_of n) a.assembly.marks line (segment_in line) a.block) } in
       ap at e
 
   -- a later copy, or a first one

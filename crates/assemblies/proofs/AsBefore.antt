@@ -5,7 +5,9 @@ use mathlib.Core.Bool.{Bool, false, not, and-false}
 use mathlib.Core.List.{List, [], ◌∷◌}
 use Prim.Native.Nat.{ℕ, zero, suc, ◌≤◌}
 use native.Mathlib.Omega.{arith}
-use Rattle.refusals.specs.Refusals.{first, when, answered, kept}
+use Rattle.std.specs.Prelude.{Result, Ok}
+use Rattle.refusals.specs.declared.Refusal.{Refusal}
+use Rattle.refusals.specs.Refusals.{first, when, answered, kept, refuses}
 use Rattle.blocks.specs.declared.marks.Marks.{Marks}
 use Rattle.blocks.specs.declared.assembly.Revisions.{Revisions}
 use Rattle.blocks.specs.declared.assembly.Assembly.{Assembly}
@@ -13,8 +15,7 @@ use Rattle.blocks.specs.Blocks.{block_of, orbit}
 use Rattle.blocks.specs.Marking.{marked}
 use Rattle.blocks.specs.Record.{started, revision_of}
 use Rattle.revisions.specs.Carried.{revisions_in, foreign, foreign_refusal}
-use Rattle.segments.specs.declared.Added.{Added}
-use Rattle.segments.specs.declared.Added.TheVariants.{Refused}
+use Rattle.segments.specs.declared.Placed.{Placed}
 use Rattle.segments.specs.Assembly.{marks_with, assembly_with, placed_on, block_with, segment_in, add_segment_refusal, added_segment, added_new, assembly_after, add_segment_answer, add_segment_left}
 use Rattle.copies.specs.Copies.{place_refusal}
 use Rattle.assemblies.specs.Runs.{State, answer_to, step, run}
@@ -34,19 +35,19 @@ module _ (f n : ℕ) (a : State) (line : List ℕ) (own : foreign n a.assembly (
   -- segment, and whether it is the first copy
   pub values_before : (added_segment (answer_to f n a line), added_new (answer_to f n a line)) ≡ earlier_values f a.assembly.marks line n a.block
   unfolding add_segment_answer earlier_values answered kept
-  values_before = ap (λ (k : ℕ). told (answered Refused k (placed_on a.assembly line (segment_in line)))) refusal_before ∙ by (earlier_refusal f a.assembly.marks line n a.block)
+  values_before = ap (λ (k : ℕ). told (answered refuses k (Ok (placed_on a.assembly line (segment_in line))))) refusal_before ∙ by (earlier_refusal f a.assembly.marks line n a.block)
     where
-      told : Added → ℕ × Bool
+      told : Result Placed Refusal → ℕ × Bool
       told r = (added_segment r, added_new r)
 
-      by : (k : ℕ) → told (answered Refused k (placed_on a.assembly line (segment_in line))) ≡ kept k (0, false) (segment_in line, not (marked a.assembly.marks (segment_in line)))
+      by : (k : ℕ) → told (answered refuses k (Ok (placed_on a.assembly line (segment_in line)))) ≡ kept k (0, false) (segment_in line, not (marked a.assembly.marks (segment_in line)))
       by zero = refl
       by (suc k) = refl
 
   pub step_before : earlier (step f n a line) ≡ earlier_step f n (earlier a) line
   unfolding step earlier_step add_segment_answer add_segment_left answered kept assembly_with
   step_before =
-      ap (λ (k : ℕ). made (assembly_after a.assembly (answered Refused k (placed_on a.assembly line (segment_in line)))).marks (kept k a.block becomes)) refusal_before
+      ap (λ (k : ℕ). made (assembly_after a.assembly (answered refuses k (Ok (placed_on a.assembly line (segment_in line))))).marks (kept k a.block becomes)) refusal_before
       ∙ ap (λ (m : Marks). made m (kept (earlier_refusal f a.assembly.marks line n a.block) a.block becomes)) (marks_kept (earlier_refusal f a.assembly.marks line n a.block))
     where
       becomes : List ℕ
@@ -55,7 +56,7 @@ module _ (f n : ℕ) (a : State) (line : List ℕ) (own : foreign n a.assembly (
       made : Marks → List ℕ → Earlier
       made m block = record { marks = m; block = block }
 
-      marks_kept : (k : ℕ) → (assembly_after a.assembly (answered Refused k (placed_on a.assembly line (segment_in line)))).marks ≡ kept k a.assembly.marks (marks_with a.assembly.marks (segment_in line))
+      marks_kept : (k : ℕ) → (assembly_after a.assembly (answered refuses k (Ok (placed_on a.assembly line (segment_in line))))).marks ≡ kept k a.assembly.marks (marks_with a.assembly.marks (segment_in line))
       marks_kept zero = refl
       marks_kept (suc k) = refl
 

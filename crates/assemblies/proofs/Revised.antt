@@ -4,11 +4,11 @@ use mathlib.Core.Path.{◌≡◌, refl, sym, ap, subst, ◌∙◌}
 use mathlib.Core.Bool.{Bool, true, false, cond, false≢true}
 use mathlib.Core.List.{List, [], ◌∷◌}
 use Prim.Native.Nat.{ℕ}
-use native.Mathlib.Omega.{arith}
 use lib.Dec.{eqb}
 use lib.Ieee as Ieee
 use lib.ListN.{length}
-use Rattle.refusals.proofs.Given.{unrefused}
+use Rattle.std.specs.Prelude.{Ok}
+use Rattle.refusals.proofs.Numbers.{answered_ok}
 use Rattle.numbers.specs.declared.R.{R}
 use Rattle.blocks.specs.declared.assembly.Revisions.{Revisions}
 use Rattle.blocks.specs.declared.assembly.Assembly.{Assembly}
@@ -17,11 +17,10 @@ use Rattle.blocks.specs.Marking.{all_marks}
 use Rattle.blocks.specs.Record.{started, revision_of}
 use Rattle.revisions.specs.Carried.{revisions_in}
 use Rattle.segments.specs.Assembly.{segment_in}
-use Rattle.entries.specs.declared.revision.Revised.TheVariants as revised
-use Rattle.entries.specs.Entries.{revised_value, revision_refusal, revision_answer}
+use Rattle.entries.specs.Entries.{revision_refusal, revision_answer}
 use Rattle.entries.proofs.Known.{given}
 use Rattle.calibration.specs.declared.Levels.{Levels}
-use Rattle.calibration.specs.Tables.{leveled, level_answer, leveled_f64, level_f64_answer}
+use Rattle.calibration.specs.Tables.{leveled, level_answer, level_f64_answer}
 use Rattle.calibration.proofs.Revised.{level-revision, level_f64_revision}
 use Rattle.assemblies.specs.Runs.{State, begun, answer_to, step, run, taken, Taken, taken_lines, first_with, named, All, OneRevision}
 use Rattle.assemblies.proofs.Advance.{Advanced, advances, marked_started}
@@ -91,15 +90,15 @@ module _ (f n : ℕ) where
 -- ---- what the calls answer
 
 -- a revision is given of a finished block, and is the remembered number that the block goes by
-revision_given_is : (f : ℕ) (a : Assembly) (n : ℕ) (block : List ℕ) (v : ℕ) → revision_answer f a n block ≡ revised.Is v → (a.marks.segments ≡ all_marks) × (revision_of n a.revisions ≡ v)
+revision_given_is : (f : ℕ) (a : Assembly) (n : ℕ) (block : List ℕ) (v : ℕ) → revision_answer f a n block ≡ Ok v → (a.marks.segments ≡ all_marks) × (revision_of n a.revisions ≡ v)
 unfolding revision_answer
 revision_given_is f a n block v e =
-    let past = unrefused revised.Refused (revision_refusal f a n (length block)) (revised.Is (revision_of n a.revisions)) (revised.Is v) (λ j d. let z : ◌≡◌ {A = ℕ} 0 1 = cc in let w : ⊥ = omega arith in w) e in
-    ((given f a.marks n _ _ (length block) past.0).finished, ap revised_value past.1)
+    let past = answered_ok (revision_refusal f a n (length block)) (revision_of n a.revisions) v e in
+    ((given f a.marks n _ _ (length block) past.0).finished, past.1)
 
 -- NEVER HALF OF EACH
 pub never_half : (f n : ℕ) (r : Revisions) (block : List ℕ) (lines : List (List ℕ)) (v : ℕ)
-    → revision_answer f (run f n (begun r block) lines).assembly n (run f n (begun r block) lines).block ≡ revised.Is v
+    → revision_answer f (run f n (begun r block) lines).assembly n (run f n (begun r block) lines).block ≡ Ok v
     → OneRevision n v (taken_lines f n (begun r block) lines) block (run f n (begun r block) lines).block
 never_half f n r block lines v e =
     let end : State = run f n (begun r block) lines in
@@ -108,11 +107,11 @@ never_half f n r block lines v e =
 
 -- and so of every level of calibration-2, which carries its block's revision: as an R, and in f64
 pub never_half_level : (t : Levels) (f : ℕ) (r : Revisions) (block : List ℕ) (lines : List (List ℕ)) (c m : ℕ) (x : R) (v : ℕ)
-    → level_answer t f (run f calibration2 (begun r block) lines).assembly (run f calibration2 (begun r block) lines).block c m ≡ leveled (x, v)
+    → level_answer t f (run f calibration2 (begun r block) lines).assembly (run f calibration2 (begun r block) lines).block c m ≡ Ok (leveled (x, v))
     → OneRevision calibration2 v (taken_lines f calibration2 (begun r block) lines) block (run f calibration2 (begun r block) lines).block
 never_half_level t f r block lines c m x v e = never_half f calibration2 r block lines v (level-revision t f _ _ c m x v e)
 
 pub never_half_level_f64 : (t : Levels) (f : ℕ) (r : Revisions) (block : List ℕ) (lines : List (List ℕ)) (c m : ℕ) (x : Ieee.Float) (v : ℕ)
-    → level_f64_answer t f (run f calibration2 (begun r block) lines).assembly (run f calibration2 (begun r block) lines).block c m ≡ leveled_f64 (x, v)
+    → level_f64_answer t f (run f calibration2 (begun r block) lines).assembly (run f calibration2 (begun r block) lines).block c m ≡ Ok (leveled (x, v))
     → OneRevision calibration2 v (taken_lines f calibration2 (begun r block) lines) block (run f calibration2 (begun r block) lines).block
 never_half_level_f64 t f r block lines c m x v e = never_half f calibration2 r block lines v (level_f64_revision t f _ _ c m x v e)

@@ -1,6 +1,8 @@
 -- A run of lines through an assembly, one call of `add_segment` after the other, and what there is to say of one: which lines were
 -- not refused, which line named a segment first, and segments side by side. Assumes nothing.
-use Rattle.std.specs.Prelude.{ℕ, zero, suc, ◌≤◌, ◌≡◌, Bool, true, false, not, cond, List, [], ◌∷◌, ◌++◌, eqb, take, drop}
+use Rattle.std.specs.Prelude.{ℕ, zero, suc, ◌≤◌, ◌≡◌, Bool, true, false, not, cond, List, [], ◌∷◌, ◌++◌, eqb, take, drop, Result, Ok, Err}
+use Rattle.refusals.specs.declared.Refusal.{Refusal}
+use Rattle.refusals.specs.Refusals.{answer_number}
 use Rattle.blocks.specs.declared.block.Block.{Block}
 use Rattle.blocks.specs.declared.assembly.Revisions.{Revisions}
 use Rattle.blocks.specs.declared.assembly.Assembly.{Assembly}
@@ -8,9 +10,8 @@ use Rattle.blocks.specs.Blocks.{block_of}
 use Rattle.blocks.specs.Marking.{no_marks}
 use Rattle.blocks.specs.Record.{revision_of}
 use Rattle.revisions.specs.Carried.{revisions_in}
-use Rattle.segments.specs.declared.Added.{Added}
-use Rattle.segments.specs.declared.Added.TheVariants.{Is, Refused}
-use Rattle.segments.specs.Assembly.{segment_in, added_number, assembly_after, add_segment_answer, add_segment_left}
+use Rattle.segments.specs.declared.Placed.{Placed}
+use Rattle.segments.specs.Assembly.{segment_in, assembly_after, add_segment_answer, add_segment_left}
 use Rattle.copies.specs.Copies.{segment_of}
 
 -- an assembly on its way: its record and its block buffer
@@ -23,7 +24,7 @@ abbrev pub begun : Revisions → List ℕ → State
 begun r block = record { assembly = record { marks = no_marks; revisions = r }; block = block }
 
 -- what `add_segment` answers to a line
-abbrev pub answer_to : ℕ → ℕ → State → List ℕ → Added
+abbrev pub answer_to : ℕ → ℕ → State → List ℕ → Result Placed Refusal
 answer_to f n a line = add_segment_answer f a.assembly line n a.block
 
 -- after one call of it
@@ -35,9 +36,9 @@ run f n a [] = a
 run f n a (l ∷ ls) = run f n (step f n a l) ls
 
 -- the call was not refused
-abbrev pub taken : Added → Bool
-taken (Is p) = true
-taken (Refused k) = false
+abbrev pub taken : Result Placed Refusal → Bool
+taken (Ok p) = true
+taken (Err e) = false
 
 -- every call of a run
 unfoldable pub Taken : ℕ → ℕ → State → List (List ℕ) → Type 0
@@ -45,7 +46,7 @@ Taken f n a [] = Unit {0}
 Taken f n a (l ∷ ls) = (taken (answer_to f n a l) ≡ true) × Taken f n (step f n a l) ls
 
 -- the lines of a run whose answers pass a test
-unfoldable pub lines_with : (Added → Bool) → ℕ → ℕ → State → List (List ℕ) → List (List ℕ)
+unfoldable pub lines_with : (Result Placed Refusal → Bool) → ℕ → ℕ → State → List (List ℕ) → List (List ℕ)
 lines_with test f n a [] = []
 lines_with test f n a (l ∷ ls) = cond (test (answer_to f n a l)) (l ∷ lines_with test f n (step f n a l) ls) (lines_with test f n (step f n a l) ls)
 
@@ -54,8 +55,8 @@ abbrev pub taken_lines : ℕ → ℕ → State → List (List ℕ) → List (Lis
 taken_lines = lines_with taken
 
 -- those that were not refused with 14
-abbrev pub unforeign : Added → Bool
-unforeign r = not (eqb (added_number r) 14)
+abbrev pub unforeign : Result Placed Refusal → Bool
+unforeign r = not (eqb (answer_number r) 14)
 
 abbrev pub unforeign_lines : ℕ → ℕ → State → List (List ℕ) → List (List ℕ)
 unforeign_lines = lines_with unforeign

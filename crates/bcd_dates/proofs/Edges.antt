@@ -4,24 +4,25 @@ use mathlib.Core.List.{List, [], ◌∷◌}
 use mathlib.Core.Logic.{◌⊎◌}
 use Prim.Native.Nat.{ℕ, ◌≤◌, ◌<◌}
 use lib.ListN.{replicate}
-use Rattle.refusals.specs.Refusals.{first, when, answered, short_of, outside, outside_of}
+use Rattle.std.specs.Prelude.{Ok, Err}
+use Rattle.refusals.specs.declared.Refusal.{Refusal}
+use Rattle.refusals.specs.Refusals.{number_of as refusal_number, first, when, answered, short_of, outside, outside_of}
 use Rattle.refusals.proofs.Words.{within}
 use Rattle.bits.specs.Bits.{digits, packed_of, bits_of, through, longer, in_base, number_of, fields_of}
-use Rattle.numbers.specs.declared.Bcd.TheVariants.{Is, Refused}
 use Rattle.numbers.specs.Decimals.{some_over9, digits_in, read_bcd_refusal, read_bcd_answer}
 use Rattle.numbers.proofs.Edges.{outside_given}
 use Rattle.bcd_dates.specs.Decimals.{part_number, bcd_in, part_refusal}
 use Rattle.bcd_dates.specs.Dates.{day_refusal, time_refusal, date_in_refusal}
 
 -- every number in a range and beside it; a refused number keeps its refusal
-pub in_range : (low high v : ℕ) → low ≤ v → v ≤ high → part_number low high (Is v) ≡ 0
+pub in_range : (low high v : ℕ) → low ≤ v → v ≤ high → part_number low high (Ok v) ≡ 0
 in_range low high v h k = within low high v 7 h k
 
-pub out_of_range : (low high v : ℕ) → (v < low) ⊎ (high < v) → part_number low high (Is v) ≡ 7
+pub out_of_range : (low high v : ℕ) → (v < low) ⊎ (high < v) → part_number low high (Ok v) ≡ 7
 out_of_range low high v h = outside_given low high v 7 h
 
-pub no_number : (low high k : ℕ) → part_number low high (Refused k) ≡ k
-no_number low high k = refl
+pub no_number : (low high : ℕ) (e : Refusal) → part_number low high (Err e) ≡ refusal_number e
+no_number low high e = refl
 
 -- a date of eight bytes: year, month, day, hour, minute, second, hundredths
 abbrev date : ℕ → ℕ → ℕ → ℕ → ℕ → ℕ → ℕ → ℕ → ℕ

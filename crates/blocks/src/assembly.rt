@@ -2,11 +2,12 @@
 ghost use Rattle.std.specs.Prelude.{◌≡◌};
 ghost use Rattle.blocks.specs.Record.{fresh_assembly, revision_of};
 
+use crate::block::{CALIBRATION_1, CALIBRATION_2, MANAM};
 use crate::marks::Marks;
 
 // The numbers by which a documentation sector names its tables: the calibration table ID, sector bytes 28-29, and the MANAM
 // revision, 30-31.
-#[derive(Clone, Copy)]
+#[derive(Clone, Copy, Debug, PartialEq, Eq)]
 pub struct Revisions {
     pub calibration: u16,
     pub manam: u16,
@@ -14,7 +15,7 @@ pub struct Revisions {
 
 // What an assembly keeps between calls: its marks, and the numbers of the line that brought its first segment. While no segment
 // is marked the numbers have no meaning.
-#[derive(Clone, Copy)]
+#[derive(Clone, Copy, Debug, PartialEq, Eq)]
 pub struct Assembly {
     pub marks: Marks,
     pub revisions: Revisions,
@@ -34,14 +35,14 @@ pub fn fresh_assembly() -> Assembly
 }
 
 // Inner. The number that a block goes by: the MANAM revision for MANAM, the calibration table ID for both calibration blocks. The
-// other blocks go by none, and have 0.
+// other blocks go by none, and have 0: with an `Option` the callers that know their block would have to open what cannot be `None`.
+#[tactic(auto, using(crate::proofs::Rows::no_revision), unfolding(crate::specs::Record::revision_of))]
 pub fn revision_of(number: u8, revisions: Revisions) -> u16
     ensures { result ≡ revision_of number revisions }
 {
     match number {
-        3 => revisions.manam,
-        4 => revisions.calibration,
-        5 => revisions.calibration,
+        MANAM => revisions.manam,
+        CALIBRATION_1 | CALIBRATION_2 => revisions.calibration,
         _ => 0,
     }
 }

@@ -1,6 +1,9 @@
 // The five blocks: how many bytes each has, and where its segments stand in the documentation sector.
 ghost use Rattle.std.specs.Prelude.{◌≡◌};
+ghost use Rattle.refusals.specs.Refusals.{answer_number};
 ghost use Rattle.blocks.specs.Blocks.{block_of, block_refusal};
+
+use refusals::{Refusal, within};
 
 pub const MAPPING: u8 = 1;
 
@@ -14,7 +17,7 @@ pub const CALIBRATION_1: u8 = 4;
 pub const CALIBRATION_2: u8 = 5;
 
 // A block: its bytes in all, and the sector byte, from 1 and with the ID, at which its segments start.
-#[derive(Clone, Copy)]
+#[derive(Clone, Copy, Debug, PartialEq, Eq)]
 pub struct Block {
     pub size: usize,
     pub first: usize,
@@ -23,28 +26,30 @@ pub struct Block {
 // Every block comes in as many segments.
 pub const SEGMENTS: usize = 25;
 
-// Inner. The block of a number; one of no bytes where there is none.
+// Inner. The block of a number; one of no bytes where there is none. It is no `Option`: callers have refused such a number before,
+// and would have to open what cannot be `None` there.
+#[tactic(auto, using(crate::proofs::Rows::no_block), unfolding(crate::specs::Blocks::block_of, crate::specs::Blocks::blocks))]
 pub fn block_of(number: u8) -> Block
     ensures { result ≡ block_of number }
 {
     match number {
-        1 => Block {
+        MAPPING => Block {
             size: 2500,
             first: 197,
         },
-        2 => Block {
+        ORBIT => Block {
             size: 3200,
             first: 297,
         },
-        3 => Block {
+        MANAM => Block {
             size: 10250,
             first: 425,
         },
-        4 => Block {
+        CALIBRATION_1 => Block {
             size: 6400,
             first: 835,
         },
-        5 => Block {
+        CALIBRATION_2 => Block {
             size: 25600,
             first: 1091,
         },
@@ -52,18 +57,15 @@ pub fn block_of(number: u8) -> Block
     }
 }
 
-// Inner. 4 where the block number is not one from 1 to 5, and for calibration-2 in format 2; else 0.
-pub fn block_refusal(format: u8, number: u8) -> u8
-    ensures { result ≡ block_refusal format number }
+// Inner. Refuses, with 4, where the block number is not one from 1 to 5, and calibration-2 in format 2.
+#[tactic(auto, using(refusals::proofs::Numbers::refused_first, refusals::proofs::Numbers::passed_first), unfolding(crate::specs::Blocks::block_refusal, refusals::specs::Refusals::when))]
+pub fn block_refusal(format: u8, number: u8) -> Result<(), Refusal>
+    ensures { answer_number result ≡ block_refusal format number }
 {
-    let refused = refusals::outside(1, 5, number as u64, refusals::NUMBER);
-    if refused != 0 {
-        return refused;
+    within(1, 5, number as u64, Refusal::Number)?;
+    if number == CALIBRATION_2 && format == 2 {
+        Err(Refusal::Number)
+    } else {
+        Ok(())
     }
-    if number == CALIBRATION_2 {
-        if format == 2 {
-            return refusals::NUMBER;
-        }
-    }
-    0
 }

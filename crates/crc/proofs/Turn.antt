@@ -1,6 +1,6 @@
 -- The turns of the loops that divide: one bit more behind bits, with what is left of the start value in sixteen bits.
 -- Assumes nothing.
-use mathlib.Core.Path.{◌≡◌, sym, ap, ap₂, ◌∙◌}
+use mathlib.Core.Path.{◌≡◌, refl, sym, ap, ap₂, ◌∙◌}
 use mathlib.Core.List.{List, [], ◌∷◌, ◌++◌, append_assoc, append-nil}
 use Prim.Native.Nat.{ℕ, ◌+◌, ◌*◌, ◌/◌, ◌%◌, ◌^◌, ◌<◌}
 use native.Mathlib.Nat.{mul_assoc, pow-suc}
@@ -8,7 +8,7 @@ use native.Mathlib.Numerals.{add-one}
 use native.Mathlib.Omega.{arith}
 use lib.ListN.{length, get_or, replicate, length-append, length-replicate, replicate-append-replicate}
 use lib.Pow.{field}
-use Rattle.bits.specs.Bits.{through, bits_of, part}
+use Rattle.bits.specs.Bits.{through, bits_of, part, stretch}
 use Rattle.bits.proofs.Bytes.{length_part, part_more}
 use Rattle.crc_step.specs.Remainder.{next, preset, remainder_of}
 use Rattle.crc_step.proofs.Preset.{remainder_append}
@@ -49,3 +49,16 @@ zero_turn start xs k i l =
 
 pub no_zeros : (start : ℕ) (xs : List ℕ) → remainder_of start xs ≡ remainder_of start (xs ++ replicate 0 0)
 no_zeros start xs = ap (remainder_of start) (sym (append-nil xs))
+
+-- of no bits
+pub no_bits : (start : ℕ) (s : List ℕ) (from : ℕ) → 0 ≡ remainder_of start (part s from 0)
+unfolding remainder_of part stretch preset through
+no_bits start s from = refl
+
+pub start_none : (start : ℕ) → start < 2 ^ 16 → start ≡ start * 2 ^ 0 % 2 ^ 16
+start_none start h = omega arith
+
+-- what the loops over bits and over zeros are proved by
+pub ruleset part_turns = (no_bits, start_none, part_turn, start_more)
+
+pub ruleset zero_turns = (length_part, no_zeros, zero_turn, start_more)

@@ -15,18 +15,14 @@ ghost use Rattle.crc_step.specs.Remainder.{remainder_of, check_word_of};
 use crc_step::{Running, stepped};
 
 // The remainder of count bits, and what is left of the start value.
+#[tactic(auto, using(crate::proofs::Turn::part_turns))]
 fn through(start: u16, s: &[u8], from: usize, count: usize) -> Running
     requires { (from + count ≤ 8 * length s.now) × (from + count < 2 ^ 64) }
     ensures { (result.rem ≡ remainder_of start (part s.now from count)) × (result.start ≡ start * 2 ^ count % 2 ^ 16) }
 {
-    let mut a = Running {
-        rem: 0,
-        start: start,
-    };
-    let mut i: usize = 0;
-    while i < count {
+    let mut a = Running { rem: 0, start };
+    for i in 0..count {
         a = stepped(a, slices::bit_at(s, from + i));
-        i += 1;
     }
     a
 }
@@ -40,15 +36,15 @@ pub fn remainder(start: u16, s: &[u8], from: usize, count: usize) -> u16
 }
 
 // Inner. The check word of count bits: the remainder with sixteen zeros behind them.
+#[tactic(auto, using(crate::proofs::Turn::zero_turns), unfolding(crc_step::specs::Remainder::check_word_of))]
 pub fn check_word(start: u16, s: &[u8], from: usize, count: usize) -> u16
     requires { (from + count ≤ 8 * length s.now) × (from + count < 2 ^ 64) }
     ensures { result ≡ check_word_of start (part s.now from count) }
 {
     let mut a = through(start, s, from, count);
-    let mut i: usize = 0;
-    while i < 16 {
+    // the place has a name, so that the invariant can count the zeros
+    for _i in 0..16usize {
         a = stepped(a, 0);
-        i += 1;
     }
     a.rem
 }

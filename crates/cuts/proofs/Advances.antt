@@ -8,21 +8,25 @@ use Prim.Native.Nat.{ℕ, zero, suc, ◌≤◌, ◌<◌}
 use native.Mathlib.Nat.{not-suc-le-zero}
 use native.Mathlib.Omega.{arith}
 use lib.ListN.{length, drop, length-append, length-drop}
+use Rattle.std.specs.Prelude.{Result, Ok}
+use Rattle.refusals.specs.declared.Refusal.{Refusal}
+use Rattle.reader_line.specs.declared.Reading.{Reading}
 use Rattle.bits.specs.Bits.{in_arow}
 use Rattle.bits.proofs.Digits.{no_digits}
 use Rattle.formats.specs.Formats.{line_bytes}
 use Rattle.reader_bits.specs.Call.{Call, more, whole}
+use Rattle.refusals.specs.Refusals.{answer_number}
+use Rattle.refusals.proofs.Numbers.{number_some}
 use Rattle.cuts.specs.Driven as driven
 use Rattle.cuts.specs.Driven.{lent_for, Driven, taken_in}
 use Rattle.reader_bits.specs.Lines.{is_tail}
 use Rattle.reader_bits.specs.Phase.{seeking, within, Bench}
 use Rattle.reader_bits.specs.Loops.{step_of, done_of}
-use Rattle.reader.specs.Read.{call_of, read_answer, read_left, refusal_of, taken_by}
+use Rattle.reader.specs.Read.{call_of, read_answer, read_left, taken_by}
 use Rattle.reader_line.specs.Answers.{call_answer}
 use Rattle.reader_record.specs.Records.{possible_of, phase_of}
 use Rattle.reader_record.specs.declared.State.{State}
-use Rattle.reader_line.specs.declared.Answer.{Answer}
-use Rattle.reader_line.specs.declared.Answer.TheVariants.{More}
+use Rattle.reader_line.specs.declared.Reading.TheVariants.{More}
 use Rattle.cuts.proofs.Calls.{taken_of, taken_most, taken_least, Quiet}
 use Rattle.cuts.proofs.Cases.{read_cases}
 use Rattle.reader_record.proofs.Checked.{Facts, facts, counts_true_in}
@@ -30,14 +34,14 @@ use Rattle.cuts.proofs.Demand.{some_window, some_bytes}
 use Rattle.cuts.proofs.Simulates as simulates
 use Rattle.cuts.proofs.Simulates.{seeking_quiet}
 
-taken_same : (c : Call Bench) → taken_by (call_answer c) ≡ taken_of c
+taken_same : (c : Call Bench) → taken_by (Ok (call_answer c)) ≡ taken_of c
 taken_same (more t s n v) = refl
 taken_same (whole t s n v) = refl
 
 -- no more than the piece has, for every input
 pub takes_most : (f setting : ℕ) (s : State) (p buf : List ℕ) → taken_by (read_answer f setting s p buf) ≤ length p
 takes_most f setting s p buf =
-    read_cases f setting s p buf (λ (a : Answer) (b : List ℕ). taken_by a ≤ length p) (λ n h. omega arith) (λ h e. omega arith)
+    read_cases f setting s p buf (λ (a : Result Reading Refusal) (b : List ℕ). taken_by a ≤ length p) (λ n. omega arith) (λ h e. omega arith)
     (λ h m l. rw (taken_same (call_of setting s p buf)) (unfold call_of in taken_most (step_of setting) done_of (phase_of s, buf) s.unread_count s.unread p))
 
 -- unread bits complete no line
@@ -56,20 +60,20 @@ quiet_state setting s buf h = go s.in_line refl
     go false e = seeking_quiet 64 (is_tail setting) line_bytes some_window some_bytes s.search_count s.search buf s.unread_count s.unread f.seven
 
 -- a piece that is not empty and not refused gives up at least one byte
-pub takes_one : (f setting : ℕ) (s : State) (p buf : List ℕ) → refusal_of (read_answer f setting s p buf) ≡ 0 → zero < length p → 1 ≤ taken_by (read_answer f setting s p buf)
+pub takes_one : (f setting : ℕ) (s : State) (p buf : List ℕ) → answer_number (read_answer f setting s p buf) ≡ 0 → zero < length p → 1 ≤ taken_by (read_answer f setting s p buf)
 takes_one f setting s [] buf = λ e l. absurd (not-suc-le-zero l)
 takes_one f setting s (y ∷ ys) buf =
-    read_cases f setting s (y ∷ ys) buf (λ (a : Answer) (b : List ℕ). refusal_of a ≡ 0 → zero < suc (length ys) → 1 ≤ taken_by a)
-    (λ n h e l. absurd (let z : ⊥ = omega arith in z))
+    read_cases f setting s (y ∷ ys) buf (λ (a : Result Reading Refusal) (b : List ℕ). answer_number a ≡ 0 → zero < suc (length ys) → 1 ≤ taken_by a)
+    (λ n e l. absurd (number_some n e))
     (λ h e r l. absurd (let z : ⊥ = omega arith in z))
     (λ h m k e l. rw (taken_same (call_of setting s (y ∷ ys) buf))
     (unfold call_of in taken_least (step_of setting) done_of (simulates.line_in line_bytes) (phase_of s, buf) s.unread_count s.unread y ys (quiet_state setting s buf h)))
 
 -- an empty piece that is not refused: nothing taken, the record given back as it was
-pub takes_none : (f setting : ℕ) (s : State) (buf : List ℕ) → refusal_of (read_answer f setting s [] buf) ≡ 0 → (read_answer f setting s [] buf ≡ More 0 s) × (read_left f setting s [] buf ≡ buf)
+pub takes_none : (f setting : ℕ) (s : State) (buf : List ℕ) → answer_number (read_answer f setting s [] buf) ≡ 0 → (read_answer f setting s [] buf ≡ Ok (More 0 s)) × (read_left f setting s [] buf ≡ buf)
 takes_none f setting s buf =
-    read_cases f setting s [] buf (λ (a : Answer) (b : List ℕ). refusal_of a ≡ 0 → (a ≡ More 0 s) × (b ≡ buf))
-    (λ n h e. absurd (let z : ⊥ = omega arith in z))
+    read_cases f setting s [] buf (λ (a : Result Reading Refusal) (b : List ℕ). answer_number a ≡ 0 → (a ≡ Ok (More 0 s)) × (b ≡ buf))
+    (λ n e. absurd (number_some n e))
     (λ h e r. (refl, refl))
     (λ h m l e. absurd (not-suc-le-zero l))
 

@@ -7,10 +7,12 @@ use Prim.Native.Nat.{ℕ, zero, suc, ◌≤◌, ◌<◌}
 use native.Mathlib.Nat.{zero-lt-suc}
 use native.Mathlib.Omega.{arith}
 use lib.ListN.{length, take, drop}
+use Rattle.std.specs.Prelude.{Result, Ok}
+use Rattle.refusals.specs.declared.Refusal.{Refusal}
+use Rattle.reader_line.specs.declared.Reading.{Reading}
 use Rattle.bits.specs.Bits.{in_arow, bits_of}
 use Rattle.formats.specs.Formats.{line_bytes, format_of}
 use Rattle.formats.specs.declared.Format.{Format}
-use Rattle.formats.specs.declared.FormatAnswer.TheVariants.{Is}
 use Rattle.reader_bits.specs.Call.{Call, more, whole, call}
 use Rattle.cuts.specs.Driven as driven
 use Rattle.cuts.specs.Driven.{lent_for, one_buffer, line_in, Driven}
@@ -22,7 +24,7 @@ use Rattle.reader_line.specs.Answers.{call_answer, call_left}
 use Rattle.reader_refusals.specs.Refusing.{largest_setting}
 use Rattle.reader_record.specs.Records.{fresh_state, state_of}
 use Rattle.reader_record.specs.declared.State.{State}
-use Rattle.reader_line.specs.declared.Answer.TheVariants.{More, Line}
+use Rattle.reader_line.specs.declared.Reading.TheVariants.{More, Line}
 use Rattle.cuts.proofs.Cuts as cuts
 use Rattle.cuts.proofs.Reached.{Good, LeftBy, fresh_good, left_call, answers, buffers}
 use Rattle.cuts.proofs.Simulates as simulates
@@ -38,7 +40,7 @@ lent_same : (lend : ℕ → List ℕ → List ℕ) (k : ℕ) (g : Phase) (n v : 
 lent_same lend k (seeking c w) n v buf = refl
 lent_same lend k (within p r q) n v buf = refl
 
-module _ (f : ℕ) (format : Format) (ok : format_of f ≡ Is format) (setting : ℕ) (small : setting ≤ largest_setting)
+module _ (f : ℕ) (format : Format) (ok : format_of f ≡ Ok format) (setting : ℕ) (small : setting ≤ largest_setting)
     (lend : ℕ → List ℕ → List ℕ) (long : (k : ℕ) (buf : List ℕ) → 44356 ≤ length buf → 44356 ≤ length (lend k buf)) where
   abbrev Reads : ℕ → Bench → ℕ → ℕ → List (List ℕ) → List (List ℕ) → Type 0
   Reads k s n v ps ls = cuts.Reads (step_of setting) done_of (simulates.line_in line_bytes) (swap lend) k s n v ps ls
@@ -48,7 +50,7 @@ module _ (f : ℕ) (format : Format) (ok : format_of f ≡ Is format) (setting :
 
   -- the public call with the buffer that is lent to it
   pub answer_lent : (k : ℕ) (g : Phase) (n v : ℕ) (p buf : List ℕ) → Good g n v → 44356 ≤ length buf
-      → read_answer f setting (state_of g n v) p (lent_for lend k (state_of g n v) buf) ≡ call_answer (call (step_of setting) done_of (g, lent_to lend k g buf) n v p)
+      → read_answer f setting (state_of g n v) p (lent_for lend k (state_of g n v) buf) ≡ Ok (call_answer (call (step_of setting) done_of (g, lent_to lend k g buf) n v p))
   answer_lent k g n v p buf h m =
       ap (λ (x : List ℕ). read_answer f setting (state_of g n v) p x) (lent_same lend k g n v buf)
       ∙ answers f format ok setting small g n v p (lent_to lend k g buf) h (room k g buf m)
@@ -65,14 +67,14 @@ module _ (f : ℕ) (format : Format) (ok : format_of f ≡ Is format) (setting :
   from_reads (cuts.Reads.used r) g m = driven.Driven.used (from_reads r g m)
   from_reads {k} {s} {n} {v} (cuts.Reads.on {p = p} {ps = ps} {ls = ls} {t = t} {s' = s'} {n' = n'} {v' = v'} e r) g m =
       let l : LeftBy setting (more t s' n' v') = subst (LeftBy setting) e (left_call setting p s.0 (lent_to lend k s.0 s.1) n v g (room k s.0 s.1 m)) in
-      driven.Driven.on (answer_lent k s.0 n v p s.1 g m ∙ ap call_answer e)
+      driven.Driven.on (answer_lent k s.0 n v p s.1 g m ∙ ap (λ (c : Call Bench). Ok (call_answer c)) e)
       (subst (λ (x : List ℕ). Driven f setting lend (suc k) (state_of s'.0 n' v') x (drop t p ∷ ps) ls) (sym (buffer_lent k s.0 n v p s.1 g m ∙ ap call_left e))
       (from_reads r l.0 l.1))
   from_reads {k} {s} {n} {v} (cuts.Reads.got {p = p} {ps = ps} {ls = ls} {t = t} {s' = s'} {n' = n'} {v' = v'} e r) g m =
       let l : LeftBy setting (whole t s' n' v') = subst (LeftBy setting) e (left_call setting p s.0 (lent_to lend k s.0 s.1) n v g (room k s.0 s.1 m)) in
       let st : State = state_of s.0 n v in
       let q : s'.1 ≡ read_left f setting st p (lent_for lend k st s.1) = sym (buffer_lent k s.0 n v p s.1 g m ∙ ap call_left e) in
-      let a : read_answer f setting st p (lent_for lend k st s.1) ≡ Line t (state_of s'.0 n' v') = answer_lent k s.0 n v p s.1 g m ∙ ap call_answer e in
+      let a : read_answer f setting st p (lent_for lend k st s.1) ≡ Ok (Line t (state_of s'.0 n' v')) = answer_lent k s.0 n v p s.1 g m ∙ ap (λ (c : Call Bench). Ok (call_answer c)) e in
       subst (λ (x : List ℕ). Driven f setting lend k st s.1 (p ∷ ps) (x ∷ ls)) (line_at q)
       (driven.Driven.got a (subst (λ (x : List ℕ). Driven f setting lend (suc k) (state_of s'.0 n' v') x (drop t p ∷ ps) ls) q (from_reads r l.0 l.1)))
     where
@@ -92,7 +94,7 @@ module _ (f : ℕ) (format : Format) (ok : format_of f ≡ Is format) (setting :
       after : List ℕ
       after = read_left f setting s p (lent_for lend k s buf)
 
-      go : (c : Call Bench) → call (step_of setting) done_of (g, lent_to lend k g buf) n v p ≡ c → LeftBy setting c → call_answer c ≡ More t s' → after ≡ call_left c
+      go : (c : Call Bench) → call (step_of setting) done_of (g, lent_to lend k g buf) n v p ≡ c → LeftBy setting c → ◌≡◌ {A = Result Reading Refusal} (Ok (call_answer c)) (Ok (More t s')) → after ≡ call_left c
           → ((g' : Phase) (n' v' : ℕ) → s' ≡ state_of g' n' v' → Good g' n' v' → 44356 ≤ length after → Reads (suc k) (g', after) n' v' (drop t p ∷ ps) ls)
           → Reads k (g, buf) n v (p ∷ ps) ls
       go (more t' b n' v') d q a w j =
@@ -112,7 +114,7 @@ module _ (f : ℕ) (format : Format) (ok : format_of f ≡ Is format) (setting :
       line_at : (b : List ℕ) → after ≡ b → bits_of (take line_bytes b) ≡ line_in after
       line_at b q = unfold line_in in ap (λ (z : List ℕ). bits_of (take line_bytes z)) (sym q)
 
-      go : (c : Call Bench) → call (step_of setting) done_of (g, lent_to lend k g buf) n v p ≡ c → LeftBy setting c → call_answer c ≡ Line t s' → after ≡ call_left c
+      go : (c : Call Bench) → call (step_of setting) done_of (g, lent_to lend k g buf) n v p ≡ c → LeftBy setting c → ◌≡◌ {A = Result Reading Refusal} (Ok (call_answer c)) (Ok (Line t s')) → after ≡ call_left c
           → ((g' : Phase) (n' v' : ℕ) → s' ≡ state_of g' n' v' → Good g' n' v' → 44356 ≤ length after → Reads (suc k) (g', after) n' v' (drop t p ∷ ps) ls)
           → Reads k (g, buf) n v (p ∷ ps) (line_in after ∷ ls)
       go (more t' b n' v') d q a w j = let z : ◌≡◌ {A = ℕ} 0 1 = cc in absurd (omega arith)
@@ -139,12 +141,12 @@ module _ (f : ℕ) (format : Format) (ok : format_of f ≡ Is format) (setting :
   driven_ends buf m ps = (demand_3 buf m ps (recorded setting (in_arow ps))).1 refl
 
 -- the same with one buffer in all calls
-pub demand_3_one : (f : ℕ) (format : Format) → format_of f ≡ Is format → (setting : ℕ) → setting ≤ largest_setting → (buf : List ℕ) → 44356 ≤ length buf → (ps ls : List (List ℕ))
+pub demand_3_one : (f : ℕ) (format : Format) → format_of f ≡ Ok format → (setting : ℕ) → setting ≤ largest_setting → (buf : List ℕ) → 44356 ≤ length buf → (ps ls : List (List ℕ))
     → Driven f setting one_buffer 0 fresh_state buf ps ls ↔ (ls ≡ recorded setting (in_arow ps))
 demand_3_one f format ok setting small buf m ps ls = demand_3 f format ok setting small one_buffer (λ k b h. h) buf m ps ls
 
 -- and with another buffer for each call that finds the reader between lines
-pub demand_3_others : (f : ℕ) (format : Format) → format_of f ≡ Is format → (setting : ℕ) → setting ≤ largest_setting → (bufs : ℕ → List ℕ) → ((k : ℕ) → 44356 ≤ length (bufs k))
+pub demand_3_others : (f : ℕ) (format : Format) → format_of f ≡ Ok format → (setting : ℕ) → setting ≤ largest_setting → (bufs : ℕ → List ℕ) → ((k : ℕ) → 44356 ≤ length (bufs k))
     → (buf : List ℕ) → 44356 ≤ length buf → (ps ls : List (List ℕ))
     → Driven f setting (λ k b. bufs k) 0 fresh_state buf ps ls ↔ (ls ≡ recorded setting (in_arow ps))
 demand_3_others f format ok setting small bufs h buf m ps ls = demand_3 f format ok setting small (λ k b. bufs k) (λ k b l. h k) buf m ps ls

@@ -10,6 +10,9 @@ use borrow.Author.Tests.{leb-true, eqb-true}
 use lib.Dec.{ltb, eqb}
 use lib.ListN.{drop, set}
 use lib.Seq.{drop-drop, drop-set-lt}
+use Rattle.std.specs.Prelude.{Result, Ok, Err}
+use Rattle.refusals.specs.declared.Refusal.{Refusal}
+use Rattle.reader_line.specs.declared.Reading.{Reading}
 use Rattle.bits.specs.Bits.{digits}
 use Rattle.formats.specs.Formats.{line_bytes}
 use Rattle.scramble.specs.Sync.{fifteen_ones}
@@ -22,8 +25,7 @@ use Rattle.reader.specs.Read.{call_of, read_answer, read_left}
 use Rattle.reader_line.specs.Answers.{call_answer, call_left}
 use Rattle.reader_record.specs.Records.{possible_of, phase_of, state_of}
 use Rattle.reader_record.specs.declared.State.{State}
-use Rattle.reader_line.specs.declared.Answer.{Answer}
-use Rattle.reader_line.specs.declared.Answer.TheVariants.{Refused, More, Line}
+use Rattle.reader_line.specs.declared.Reading.TheVariants.{More, Line}
 use Rattle.cuts.proofs.Calls.{Gives, gives_call}
 use Rattle.cuts.proofs.Cases.{read_cases}
 use Rattle.reader_record.proofs.Checked.{Facts, facts, counts_true_in}
@@ -109,32 +111,32 @@ leaves_call setting s p buf h =
 -- ---- of the public call
 
 -- what an answer and a buffer after it say of the buffer before it
-abbrev pub KeepsBy : State → List ℕ → Answer → List ℕ → Type 0
-KeepsBy s buf (Refused n) after = after ≡ buf
-KeepsBy s buf (More t s') after =
+abbrev pub KeepsBy : State → List ℕ → Result Reading Refusal → List ℕ → Type 0
+KeepsBy s buf (Err e) after = after ≡ buf
+KeepsBy s buf (Ok (More t s')) after =
     (s'.in_line ≡ false → after ≡ buf) × (s'.in_line ≡ true → drop (s'.position / 8) after ≡ drop (s'.position / 8) buf)
-KeepsBy s buf (Line t s') after = (s'.in_line ≡ false) × (drop 44356 after ≡ drop 44356 buf)
+KeepsBy s buf (Ok (Line t s')) after = (s'.in_line ≡ false) × (drop 44356 after ≡ drop 44356 buf)
 
 -- FOR EVERY INPUT: a refusal leaves the buffer as it was; so does a call that ends between lines without a line; one that
 -- ends in a line has changed only bytes whose eight bits are in; a line complete leaves the bytes past it
 pub keeps : (f setting : ℕ) (s : State) (p buf : List ℕ) → KeepsBy s buf (read_answer f setting s p buf) (read_left f setting s p buf)
-keeps f setting s p buf = read_cases f setting s p buf (KeepsBy s buf) (λ n h. refl) (λ h e. (λ i. refl, λ i. refl)) (λ h m l. go (call_of setting s p buf) (leaves_call setting s p buf h))
+keeps f setting s p buf = read_cases f setting s p buf (KeepsBy s buf) (λ n. refl) (λ h e. (λ i. refl, λ i. refl)) (λ h m l. go (call_of setting s p buf) (leaves_call setting s p buf h))
   where
-    used : (g : Phase) (n v t : ℕ) (after : List ℕ) → Kept buf g after → KeepsBy s buf (More t (state_of g n v)) after
+    used : (g : Phase) (n v t : ℕ) (after : List ℕ) → Kept buf g after → KeepsBy s buf (Ok (More t (state_of g n v))) after
     used (seeking c w) n v t after k = (λ i. k, λ i. absurd (false≢true i))
     used (within pl r q) n v t after k = (λ i. absurd (true≢false i), λ i. k)
 
-    ended : (g : Phase) (n v t : ℕ) (after : List ℕ) → g ≡ seeking 0 0 → drop 44356 after ≡ drop 44356 buf → KeepsBy s buf (Line t (state_of g n v)) after
+    ended : (g : Phase) (n v t : ℕ) (after : List ℕ) → g ≡ seeking 0 0 → drop 44356 after ≡ drop 44356 buf → KeepsBy s buf (Ok (Line t (state_of g n v))) after
     ended g n v t after e k = rw e (refl, k)
 
-    go : (c : Call Bench) → Leaves buf setting c → KeepsBy s buf (call_answer c) (call_left c)
+    go : (c : Call Bench) → Leaves buf setting c → KeepsBy s buf (Ok (call_answer c)) (call_left c)
     go (more t b n v) k = used b.0 n v t b.1 k.0
     go (whole t b n v) k = ended b.0 n v t b.1 k.0 k.1
 
 -- FOR EVERY INPUT: a buffer keeps its bytes past the line
 pub past_keeps : (f setting : ℕ) (s : State) (p buf : List ℕ) → drop 44356 (read_left f setting s p buf) ≡ drop 44356 buf
 past_keeps f setting s p buf =
-    read_cases f setting s p buf (λ (a : Answer) (b : List ℕ). drop 44356 b ≡ drop 44356 buf) (λ n h. refl) (λ h e. refl)
+    read_cases f setting s p buf (λ (a : Result Reading Refusal) (b : List ℕ). drop 44356 b ≡ drop 44356 buf) (λ n. refl) (λ h e. refl)
     (λ h m l. go (call_of setting s p buf) (leaves_call setting s p buf h))
   where
     used : (g : Phase) (after : List ℕ) → Kept buf g after → Fit g → drop 44356 after ≡ drop 44356 buf
@@ -147,27 +149,27 @@ past_keeps f setting s p buf =
 
 -- a call that finds no tail leaves the buffer as it was
 pub line_stays : (f setting : ℕ) (s : State) (p buf : List ℕ) (t : ℕ) (s' : State)
-    → read_answer f setting s p buf ≡ More t s' → s'.in_line ≡ false → read_left f setting s p buf ≡ buf
+    → read_answer f setting s p buf ≡ Ok (More t s') → s'.in_line ≡ false → read_left f setting s p buf ≡ buf
 line_stays f setting s p buf t s' e i = go (read_answer f setting s p buf) e (keeps f setting s p buf)
   where
-    go : (a : Answer) → a ≡ More t s' → KeepsBy s buf a (read_left f setting s p buf) → read_left f setting s p buf ≡ buf
-    go (Refused n) h k = k
-    go (More u r) h k = let z : r.in_line ≡ false = (let y : r ≡ s' = cc in ap (λ (x : State). x.in_line) y ∙ i) in k.0 z
-    go (Line u r) h k = let z : ◌≡◌ {A = ℕ} 0 1 = cc in absurd (omega arith)
+    go : (a : Result Reading Refusal) → a ≡ Ok (More t s') → KeepsBy s buf a (read_left f setting s p buf) → read_left f setting s p buf ≡ buf
+    go (Err n) h k = k
+    go (Ok (More u r)) h k = let z : r.in_line ≡ false = (let y : r ≡ s' = cc in ap (λ (x : State). x.in_line) y ∙ i) in k.0 z
+    go (Ok (Line u r)) h k = let z : ◌≡◌ {A = ℕ} 0 1 = cc in absurd (omega arith)
 
-pub refused_stays : (f setting : ℕ) (s : State) (p buf : List ℕ) (n : ℕ) → read_answer f setting s p buf ≡ Refused n → read_left f setting s p buf ≡ buf
+pub refused_stays : (f setting : ℕ) (s : State) (p buf : List ℕ) (n : Refusal) → read_answer f setting s p buf ≡ Err n → read_left f setting s p buf ≡ buf
 refused_stays f setting s p buf n e = go (read_answer f setting s p buf) e (keeps f setting s p buf)
   where
-    go : (a : Answer) → a ≡ Refused n → KeepsBy s buf a (read_left f setting s p buf) → read_left f setting s p buf ≡ buf
-    go (Refused m) h k = k
-    go (More u r) h k = let z : ◌≡◌ {A = ℕ} 0 1 = cc in absurd (omega arith)
-    go (Line u r) h k = let z : ◌≡◌ {A = ℕ} 0 1 = cc in absurd (omega arith)
+    go : (a : Result Reading Refusal) → a ≡ Err n → KeepsBy s buf a (read_left f setting s p buf) → read_left f setting s p buf ≡ buf
+    go (Err m) h k = k
+    go (Ok (More u r)) h k = let z : ◌≡◌ {A = ℕ} 0 1 = cc in absurd (omega arith)
+    go (Ok (Line u r)) h k = let z : ◌≡◌ {A = ℕ} 0 1 = cc in absurd (omega arith)
 
 -- after a line the reader is between lines
-pub line_between : (f setting : ℕ) (s : State) (p buf : List ℕ) (t : ℕ) (s' : State) → read_answer f setting s p buf ≡ Line t s' → s'.in_line ≡ false
+pub line_between : (f setting : ℕ) (s : State) (p buf : List ℕ) (t : ℕ) (s' : State) → read_answer f setting s p buf ≡ Ok (Line t s') → s'.in_line ≡ false
 line_between f setting s p buf t s' e = go (read_answer f setting s p buf) e (keeps f setting s p buf)
   where
-    go : (a : Answer) → a ≡ Line t s' → KeepsBy s buf a (read_left f setting s p buf) → s'.in_line ≡ false
-    go (Refused m) h k = let z : ◌≡◌ {A = ℕ} 0 1 = cc in absurd (omega arith)
-    go (More u r) h k = let z : ◌≡◌ {A = ℕ} 0 1 = cc in absurd (omega arith)
-    go (Line u r) h k = let y : s' ≡ r = cc in ap (λ (x : State). x.in_line) y ∙ k.0
+    go : (a : Result Reading Refusal) → a ≡ Ok (Line t s') → KeepsBy s buf a (read_left f setting s p buf) → s'.in_line ≡ false
+    go (Err m) h k = let z : ◌≡◌ {A = ℕ} 0 1 = cc in absurd (omega arith)
+    go (Ok (More u r)) h k = let z : ◌≡◌ {A = ℕ} 0 1 = cc in absurd (omega arith)
+    go (Ok (Line u r)) h k = let y : s' ≡ r = cc in ap (λ (x : State). x.in_line) y ∙ k.0

@@ -7,13 +7,15 @@ use native.Mathlib.Nat.{zero-lt-suc}
 use native.Mathlib.Omega.{arith}
 use lib.ListN.{length, take, drop, length-append, take-append-drop}
 use lib.Seq.{take_at}
+use Rattle.std.specs.Prelude.{Result, Ok}
+use Rattle.refusals.specs.declared.Refusal.{Refusal}
+use Rattle.reader_line.specs.declared.Reading.{Reading}
 use Rattle.bits.specs.Bits.{digits, bits_of, Below}
 use Rattle.bits.proofs.Below.{below_append, below_take, below_head, below_rest}
 use Rattle.bits.proofs.Bytes.{bits_append, bits_below, length_bits, no_bits}
 use Rattle.bits.proofs.Digits.{length_digits, digits_below, no_digits}
 use Rattle.formats.specs.Formats.{information_bits, line_bytes, format_of}
 use Rattle.formats.specs.declared.Format.{Format}
-use Rattle.formats.specs.declared.FormatAnswer.TheVariants.{Is}
 use Rattle.wire.specs.Parts.{line_of}
 use Rattle.reader_bits.specs.Call.{Call, more, whole, call}
 use Rattle.cuts.specs.Driven as driven
@@ -26,8 +28,7 @@ use Rattle.reader_line.specs.Answers.{call_answer, call_left}
 use Rattle.reader_refusals.specs.Refusing.{largest_setting}
 use Rattle.reader_record.specs.Records.{state_of}
 use Rattle.reader_record.specs.declared.State.{State}
-use Rattle.reader_line.specs.declared.Answer.{Answer}
-use Rattle.reader_line.specs.declared.Answer.TheVariants.{More, Line}
+use Rattle.reader_line.specs.declared.Reading.TheVariants.{More, Line}
 use Rattle.cuts.proofs.Auto as auto
 use Rattle.cuts.proofs.Auto.{Auto, seek}
 use Rattle.cuts.proofs.Calls.{outs, after}
@@ -126,7 +127,7 @@ module _ (setting : ℕ) where
   quiet (seeking c w) buf n v h = seeking_quiet 64 (is_tail setting) line_bytes some_window some_bytes c w buf n v h.2
   quiet (within p r q) buf n v h = rw (h.3, no_digits v)
 
-module _ (f : ℕ) (format : Format) (ok : format_of f ≡ Is format) (setting : ℕ) (small : setting ≤ largest_setting)
+module _ (f : ℕ) (format : Format) (ok : format_of f ≡ Ok format) (setting : ℕ) (small : setting ≤ largest_setting)
     (lend : ℕ → List ℕ → List ℕ) (long : (k : ℕ) (buf : List ℕ) → 44356 ≤ length buf → 44356 ≤ length (lend k buf)) where
   -- from a moment over the bits ys
   go_on : (s : State) (buf bytes : List ℕ) (ls : List (List ℕ)) (h : Holds setting s buf bytes ls) (k : ℕ) (p ys : List ℕ) (t n' v' : ℕ) (b : Bench) (s' : State) (after' : List ℕ) (o : List (List ℕ))
@@ -165,11 +166,13 @@ module _ (f : ℕ) (format : Format) (ok : format_of f ≡ Is format) (setting :
     abbrev c : Call Bench
     c = call (step_of setting) done_of (lent_now k h.phase buf) h.left h.unread p
 
-    answer_at : (a : Answer) → read_answer f setting s p (lent_for lend k s buf) ≡ a → call_answer c ≡ a
+    answer_at : (a : Reading) → read_answer f setting s p (lent_for lend k s buf) ≡ Ok a → call_answer c ≡ a
     answer_at a e =
+        let same : ◌≡◌ {A = Result Reading Refusal} (Ok (call_answer c)) (Ok a) =
         sym (answer_lent f format ok setting small lend long k h.phase h.left h.unread p buf h.good h.long)
         ∙ ap (λ (x : State). read_answer f setting x p (lent_for lend k x buf)) (sym h.same)
-        ∙ e
+        ∙ e in
+        cc
 
     buffer_at : read_left f setting s p (lent_for lend k s buf) ≡ call_left c
     buffer_at =
@@ -182,7 +185,7 @@ module _ (f : ℕ) (format : Format) (ok : format_of f ≡ Is format) (setting :
     onward_at : OnwardBy (step_of setting) done_of (simulates.line_in line_bytes) (lent_now k h.phase buf) (digits h.left h.unread ++ bits_of p) p c
     onward_at = onward_call (step_of setting) done_of (simulates.line_in line_bytes) (lent_now k h.phase buf) h.left h.unread p
 
-    holds_on : (t : ℕ) (s' : State) → read_answer f setting s p (lent_for lend k s buf) ≡ More t s'
+    holds_on : (t : ℕ) (s' : State) → read_answer f setting s p (lent_for lend k s buf) ≡ Ok (More t s')
         → Holds setting s' (read_left f setting s p (lent_for lend k s buf)) (bytes ++ take t p) ls
     holds_on t s' e = go c left_at onward_at (answer_at (More t s') e) buffer_at
       where
@@ -197,7 +200,7 @@ module _ (f : ℕ) (format : Format) (ok : format_of f ≡ Is format) (setting :
             (rw z at o.split) o.goes o.quiet st l.0 l.1 w)
         go (whole t' b n' v') l o a w = let z : ◌≡◌ {A = ℕ} 0 1 = cc in absurd (omega arith)
 
-    holds_got : (t : ℕ) (s' : State) → read_answer f setting s p (lent_for lend k s buf) ≡ Line t s'
+    holds_got : (t : ℕ) (s' : State) → read_answer f setting s p (lent_for lend k s buf) ≡ Ok (Line t s')
         → Holds setting s' (read_left f setting s p (lent_for lend k s buf)) (bytes ++ take t p) (ls ++ (line_in (read_left f setting s p (lent_for lend k s buf)) ∷ []))
     unfolding line_in
     holds_got t s' e = go c left_at onward_at (answer_at (Line t s') e) buffer_at
@@ -214,7 +217,7 @@ module _ (f : ℕ) (format : Format) (ok : format_of f ≡ Is format) (setting :
             (rw z at o.split) o.goes (o.brings ∙ ap (λ (x : List ℕ). bits_of (take line_bytes x) ∷ []) (sym w)) st l.0 l.1 w
 
     -- without its last bit the line is not there yet
-    before_last : (t : ℕ) (s' : State) → read_answer f setting s p (lent_for lend k s buf) ≡ Line t s'
+    before_last : (t : ℕ) (s' : State) → read_answer f setting s p (lent_for lend k s buf) ≡ Ok (Line t s')
         → lines setting (take (8 * length (bytes ++ take t p) - s'.unread_count - 1) (bits_of (bytes ++ take t p))) ≡ ls
     unfolding lines
     before_last t s' e = go c left_at onward_at (answer_at (Line t s') e)
@@ -268,7 +271,7 @@ module _ (f : ℕ) (format : Format) (ok : format_of f ≡ Is format) (setting :
       }
   holds m (driven.Moment.on {k = k} {s = s} {buf = buf} {bytes = bytes} {ls = ls} {t = t} {s' = s'} p d e) = holds_on s buf bytes ls (holds m d) k p t s' e
   holds m (driven.Moment.got {k = k} {s = s} {buf = buf} {bytes = bytes} {ls = ls} {t = t} {s' = s'} p d e) = holds_got s buf bytes ls (holds m d) k p t s' e
-  holds m (driven.Moment.refused {s = s} {buf = buf} {bytes = bytes} {ls = ls} {n = n} g a r p d e) =
+  holds m (driven.Moment.refused {s = s} {buf = buf} {bytes = bytes} {ls = ls} {e = n} g a r p d e) =
       subst (λ (x : List ℕ). Holds setting s x bytes ls) (sym (refused_stays g a r p buf n e)) (holds m d)
 
   bits_at : (s : State) (buf bytes : List ℕ) (ls : List (List ℕ)) (h : Holds setting s buf bytes ls) → bits_read s bytes ≡ h.xs
@@ -311,6 +314,6 @@ module _ (f : ℕ) (format : Format) (ok : format_of f ≡ Is format) (setting :
 
   -- and a line is handed out right at its last bit: of the bits read without that one, it is no line yet
   pub at_its_last_bit : (first : List ℕ) → 44356 ≤ length first → {k : ℕ} {s : State} {buf bytes : List ℕ} {ls : List (List ℕ)}
-      → Moment f setting lend first k s buf bytes ls → (p : List ℕ) (t : ℕ) (s' : State) → read_answer f setting s p (lent_for lend k s buf) ≡ Line t s'
+      → Moment f setting lend first k s buf bytes ls → (p : List ℕ) (t : ℕ) (s' : State) → read_answer f setting s p (lent_for lend k s buf) ≡ Ok (Line t s')
       → lines setting (take (8 * length (bytes ++ take t p) - s'.unread_count - 1) (bits_of (bytes ++ take t p))) ≡ ls
   at_its_last_bit first m {k = k} {s = s} {buf = buf} {bytes = bytes} {ls = ls} d p t s' e = before_last s buf bytes ls (holds m d) k p t s' e

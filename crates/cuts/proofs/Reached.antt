@@ -11,14 +11,14 @@ use borrow.Author.Tests.{lt-ltb, le-ltb, le-leb, eq-eqb, ne_eqb, leb-false, ltb-
 use lib.Dec.{leb, ltb, eqb}
 use lib.ListN.{length}
 use lib.Pow.{pow_pos}
+use Rattle.std.specs.Prelude.{Ok}
+use Rattle.reader_line.specs.declared.Reading.{Reading}
 use Rattle.bits.specs.Bits.{digits}
-use Rattle.refusals.specs.Refusals.{when, short_of}
+use Rattle.refusals.specs.Refusals.{when, short_of, answered, refuses}
 use Rattle.refusals.proofs.Words.{first_none, kept_none, when_false, within as inside-range}
-use Rattle.refusals.proofs.Given.{given_none}
 use Rattle.formats.specs.Formats.{line_bytes, format_of, format_refusal}
 use Rattle.formats.proofs.Which.{is_known}
 use Rattle.formats.specs.declared.Format.{Format}
-use Rattle.formats.specs.declared.FormatAnswer.TheVariants.{Is}
 use Rattle.scramble.specs.Register.{next_register}
 use Rattle.scramble.specs.Sync.{fifteen_ones}
 use Rattle.scramble.proofs.Steps.{next_lt}
@@ -30,7 +30,6 @@ use Rattle.reader_bits.specs.Loops.{step_of, done_of}
 use Rattle.reader.specs.Read.{call_of, served_answer, served_left, read_answer, read_left}
 use Rattle.reader_line.specs.Answers.{call_answer, call_left}
 use Rattle.reader_refusals.specs.Refusing.{largest_setting, setting_refusal, read_refusal}
-use Rattle.reader_line.specs.declared.Answer.TheVariants.{Refused}
 use Rattle.reader_record.specs.Records.{counts_of, possible_of, state_of}
 use Rattle.reader_record.specs.declared.State.{State}
 use Rattle.cuts.proofs.Calls.{Gives, gives_call}
@@ -141,7 +140,7 @@ unfolding served_left
 served_buffers setting g n v [] buf h = refl
 served_buffers setting g n v (y ∷ ys) buf h = rw (ne_eqb (suc (length ys)) 0 (omega arith)) (ap call_left (same_call setting g n v (y ∷ ys) buf h))
 
-module _ (f : ℕ) (k : Format) (ok : format_of f ≡ Is k) (setting : ℕ) (small : setting ≤ largest_setting) where
+module _ (f : ℕ) (k : Format) (ok : format_of f ≡ Ok k) (setting : ℕ) (small : setting ≤ largest_setting) where
   not_refused : (s : State) (given : ℕ) → possible_of s ≡ true → 44356 ≤ given → read_refusal f setting s given ≡ 0
   unfolding read_refusal short_of
   not_refused s given h m =
@@ -151,10 +150,10 @@ module _ (f : ℕ) (k : Format) (ok : format_of f ≡ Is k) (setting : ℕ) (sma
       ∙ when_false (ltb given line_bytes) 2 (le-ltb given line_bytes m)
 
   pub answers : (g : Phase) (n v : ℕ) (p buf : List ℕ) → Good g n v → 44356 ≤ length buf
-      → read_answer f setting (state_of g n v) p buf ≡ call_answer (call (step_of setting) done_of (g, buf) n v p)
-  unfolding read_answer
+      → read_answer f setting (state_of g n v) p buf ≡ Ok (call_answer (call (step_of setting) done_of (g, buf) n v p))
+  unfolding read_answer answered
   answers g n v p buf h m =
-      sym (given_none Refused 0 _ _ _ (sym (not_refused (state_of g n v) (length buf) (good_possible g n v h) m)) refl (sym (served_answers setting g n v p buf h)))
+      ap₂ (λ (r : ℕ) (x : Reading). answered refuses r (Ok x)) (not_refused (state_of g n v) (length buf) (good_possible g n v h) m) (served_answers setting g n v p buf h)
 
   pub buffers : (g : Phase) (n v : ℕ) (p buf : List ℕ) → Good g n v → 44356 ≤ length buf
       → read_left f setting (state_of g n v) p buf ≡ call_left (call (step_of setting) done_of (g, buf) n v p)

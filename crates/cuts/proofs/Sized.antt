@@ -5,12 +5,14 @@ use mathlib.Core.Path.{◌≡◌, refl, ◌∙◌}
 use Prim.Native.Nat.{ℕ, ◌^◌, ◌≤◌, ◌<◌}
 use native.Mathlib.Omega.{arith}
 use lib.ListN.{length}
+use Rattle.std.specs.Prelude.{Result}
+use Rattle.refusals.specs.declared.Refusal.{Refusal}
+use Rattle.reader_line.specs.declared.Reading.{Reading}
 use Rattle.reader_bits.specs.Call.{Call, more, whole}
 use Rattle.reader_bits.specs.Phase.{Bench}
 use Rattle.reader_bits.specs.Loops.{step_of, done_of}
 use Rattle.reader.specs.Read.{call_of, read_left}
 use Rattle.reader_line.specs.Answers.{call_left}
-use Rattle.reader_line.specs.declared.Answer.{Answer}
 use Rattle.reader_record.specs.Records.{phase_of}
 use Rattle.reader_record.specs.declared.State.{State}
 use Rattle.reader_record.proofs.Checked.{facts}
@@ -41,7 +43,7 @@ module _ (setting size : ℕ) where
 pub read_length : (f setting : ℕ) (s : State) (p buf : List ℕ) → length (read_left f setting s p buf) ≡ length buf
 unfolding call_of
 read_length f setting s p buf =
-    read_cases f setting s p buf (λ (a : Answer) (b : List ℕ). length b ≡ length buf) (λ n h. refl) (λ h e. refl)
+    read_cases f setting s p buf (λ (a : Result Reading Refusal) (b : List ℕ). length b ≡ length buf) (λ n. refl) (λ h e. refl)
     (λ h m l. long_call setting (length buf) (call_of setting s p buf)
     (gives_call (step_of setting) done_of (Long setting (length buf)) (LongAt setting (length buf)) (LongAt setting (length buf)) (long_on setting (length buf)) (long_rest setting (length buf)) (long_stop setting (length buf))
     p (phase_of s, buf) s.unread_count s.unread (let g = facts s h in omega (arith, g.seven)) refl refl))

@@ -24,4 +24,4 @@ line_stands driven.Moment.start w = absurd w
 line_stands (driven.Moment.got {ls = ls} p m e) w = record { before = ls; all = refl }
 line_stands {f} {setting} {lend} (driven.Moment.on {k = k} {s = s} {buf = buf} {ls = ls} {t = t} {s' = s'} p m e) w =
     kept_last ls buf (read_left f setting s p (lent_for lend k s buf)) (line_stays f setting s p (lent_for lend k s buf) t s' e w.2 ∙ w.1) (line_stands m w.0)
-line_stands (driven.Moment.refused {buf = buf} {ls = ls} {n = n} g a r p m e) w = kept_last ls buf (read_left g a r p buf) (refused_stays g a r p buf n e) (line_stands m w)
+line_stands (driven.Moment.refused {buf = buf} {ls = ls} {e = n} g a r p m e) w = kept_last ls buf (read_left g a r p buf) (refused_stays g a r p buf n e) (line_stands m w)

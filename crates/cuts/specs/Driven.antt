@@ -1,13 +1,14 @@
 -- THE CALLER of demand 3, and what it is handed. It hands in the same setting in all calls on a recording. It offers a piece, and each unread rest of it, until the piece is used up,
 -- and then the next; the record goes from call to call, and so does the buffer, which the caller may exchange for another
 -- before a call while the reader is between lines. Assumes nothing.
-use Rattle.std.specs.Prelude.{false, cond, List, [], ◌∷◌, ◌++◌, ◌≡◌, ℕ, suc, ◌+◌, ◌-◌, ◌*◌, length, take, drop}
+use Rattle.std.specs.Prelude.{false, cond, List, [], ◌∷◌, ◌++◌, ◌≡◌, ℕ, suc, ◌+◌, ◌-◌, ◌*◌, length, take, drop, Ok, Err}
 use Rattle.bits.specs.Bits.{bits_of}
 use Rattle.formats.specs.Formats.{line_bytes}
 use Rattle.reader.specs.Read.{read_answer, read_left}
 use Rattle.reader_record.specs.Records.{fresh_state}
 use Rattle.reader_record.specs.declared.State.{State}
-use Rattle.reader_line.specs.declared.Answer.TheVariants.{Refused, More, Line}
+use Rattle.refusals.specs.declared.Refusal.{Refusal}
+use Rattle.reader_line.specs.declared.Reading.TheVariants.{More, Line}
 
 -- the buffer of call k: inside a line it stays; between lines it is what the caller makes of it, `lend k`
 abbrev pub lent_for : (ℕ → List ℕ → List ℕ) → ℕ → State → List ℕ → List ℕ
@@ -27,11 +28,11 @@ pub data Driven (f setting : ℕ) (lend : ℕ → List ℕ → List ℕ) : ℕ �
   end : {k : ℕ} {s : State} {buf : List ℕ} → Driven f setting lend k s buf [] []
   used : {k : ℕ} {s : State} {buf : List ℕ} {ps ls : List (List ℕ)} → Driven f setting lend k s buf ps ls → Driven f setting lend k s buf ([] ∷ ps) ls
   on : {k : ℕ} {s : State} {buf p : List ℕ} {ps ls : List (List ℕ)} {t : ℕ} {s' : State}
-      → read_answer f setting s p (lent_for lend k s buf) ≡ More t s'
+      → read_answer f setting s p (lent_for lend k s buf) ≡ Ok (More t s')
       → Driven f setting lend (suc k) s' (read_left f setting s p (lent_for lend k s buf)) (drop t p ∷ ps) ls
       → Driven f setting lend k s buf (p ∷ ps) ls
   got : {k : ℕ} {s : State} {buf p : List ℕ} {ps ls : List (List ℕ)} {t : ℕ} {s' : State}
-      → read_answer f setting s p (lent_for lend k s buf) ≡ Line t s'
+      → read_answer f setting s p (lent_for lend k s buf) ≡ Ok (Line t s')
       → Driven f setting lend (suc k) s' (read_left f setting s p (lent_for lend k s buf)) (drop t p ∷ ps) ls
       → Driven f setting lend k s buf (p ∷ ps) (line_in (read_left f setting s p (lent_for lend k s buf)) ∷ ls)
 
@@ -49,15 +50,15 @@ pub data Moment (f setting : ℕ) (lend : ℕ → List ℕ → List ℕ) (first 
   start : Moment f setting lend first 0 fresh_state first [] []
   on : {k : ℕ} {s : State} {buf bytes : List ℕ} {ls : List (List ℕ)} {t : ℕ} {s' : State} (p : List ℕ)
       → Moment f setting lend first k s buf bytes ls
-      → read_answer f setting s p (lent_for lend k s buf) ≡ More t s'
+      → read_answer f setting s p (lent_for lend k s buf) ≡ Ok (More t s')
       → Moment f setting lend first (suc k) s' (read_left f setting s p (lent_for lend k s buf)) (bytes ++ take t p) ls
   got : {k : ℕ} {s : State} {buf bytes : List ℕ} {ls : List (List ℕ)} {t : ℕ} {s' : State} (p : List ℕ)
       → Moment f setting lend first k s buf bytes ls
-      → read_answer f setting s p (lent_for lend k s buf) ≡ Line t s'
+      → read_answer f setting s p (lent_for lend k s buf) ≡ Ok (Line t s')
       → Moment f setting lend first (suc k) s' (read_left f setting s p (lent_for lend k s buf)) (bytes ++ take t p) (ls ++ (line_in (read_left f setting s p (lent_for lend k s buf)) ∷ []))
-  refused : {k : ℕ} {s : State} {buf bytes : List ℕ} {ls : List (List ℕ)} {n : ℕ} (g a : ℕ) (r : State) (p : List ℕ)
+  refused : {k : ℕ} {s : State} {buf bytes : List ℕ} {ls : List (List ℕ)} {e : Refusal} (g a : ℕ) (r : State) (p : List ℕ)
       → Moment f setting lend first k s buf bytes ls
-      → read_answer g a r p buf ≡ Refused n
+      → read_answer g a r p buf ≡ Err e
       → Moment f setting lend first k s (read_left g a r p buf) bytes ls
 
 -- A LINE STANDS WHOLE IN THE BUFFER: right after the call that handed it out, and after each later call that was lent the same

@@ -7,7 +7,7 @@ use lib.ListN.{length, get_or, take}
 use Rattle.bits.specs.Bits.{in_arow}
 use Rattle.formats.specs.Formats.{format_of, check_start, line_bytes}
 use Rattle.formats.specs.declared.Format.{Format}
-use Rattle.formats.specs.declared.FormatAnswer.TheVariants.{Is}
+use Rattle.std.specs.Prelude.{Ok}
 use Rattle.formats.proofs.Which.{is_known}
 use Rattle.cuts.specs.Driven.{Driven, line_in}
 use Rattle.reader_record.specs.Records.{fresh_state}
@@ -18,7 +18,7 @@ use Rattle.demands.specs.Ones.{OtherCard}
 use Rattle.demands.proofs.Demands.{there_and_back}
 use Rattle.demands.proofs.Demand2.{recording_is, lines_in_is, held_back}
 
-module _ (n : ℕ) (f : Format) (e : format_of n ≡ Is f) (m : ℕ) (g : Format) (h : format_of m ≡ Is g) (differ : check_start n ≡ check_start m → ⊥) (setting : ℕ) (small : setting ≤ largest_setting)
+module _ (n : ℕ) (f : Format) (e : format_of n ≡ Ok f) (m : ℕ) (g : Format) (h : format_of m ≡ Ok g) (differ : check_start n ≡ check_start m → ⊥) (setting : ℕ) (small : setting ≤ largest_setting)
     (lend : ℕ → List ℕ → List ℕ) (long : (k : ℕ) (buf : List ℕ) → 44356 ≤ length buf → 44356 ≤ length (lend k buf)) (first : List ℕ) (room : 44356 ≤ length first)
     {ls : List (List ℕ)} {recording : List ℕ} (r : Recording n ls recording) where
   pub other_cards : (ps : List (List ℕ)) → in_arow ps ≡ recording → (out : List (List ℕ)) → Driven m setting lend 0 fresh_state first ps out → OtherCard n m ls out

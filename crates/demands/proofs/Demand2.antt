@@ -6,8 +6,8 @@ use Prim.Native.Nat.{ℕ, suc, ◌≤◌}
 use native.Mathlib.Omega.{arith}
 use lib.ListN.{length, get_or, take, drop, length-append, get_or-map}
 use lib.Seq.{length-take-le, take_at, take-take, get_or-append_seam, get_or-take}
+use Rattle.refusals.proofs.Numbers.{answered_ok}
 use Rattle.refusals.specs.Refusals.{short_of}
-use Rattle.refusals.proofs.Given.{unrefused}
 use Rattle.refusals.proofs.Words.{none_first, none_second, enough, kept_none}
 use Rattle.bits.specs.Bits.{bits_of, fields_of, in_arow}
 use Rattle.bits.proofs.Below.{below_take}
@@ -16,9 +16,8 @@ use Rattle.bits.proofs.Fields.{length_fields}
 use Rattle.formats.specs.Formats.{format_of, format_refusal, line_bytes, named_by}
 use Rattle.formats.proofs.Which.{named_by_is}
 use Rattle.writer.specs.Wire.{on_wire, wire_bytes, write_line_refusal, write_line_answer, write_line_left}
-use Rattle.writer.specs.declared.Written.TheVariants as written
 use Rattle.formats.specs.declared.Format.{Format}
-use Rattle.formats.specs.declared.FormatAnswer.TheVariants.{Is}
+use Rattle.std.specs.Prelude.{Ok}
 use Rattle.cuts.specs.Driven.{Driven, Moment, Standing, line_in}
 use Rattle.reader_bits.specs.Lines.{lines, recorded}
 use Rattle.reader_record.specs.Records.{fresh_state}
@@ -53,24 +52,22 @@ record Wrote (f : Format) (line left : List ℕ) (count : ℕ) : Type 0 where
   full : line_bytes ≤ length line
   put : take count left ≡ wire_bytes f (take line_bytes line)
 
-wrote : (n : ℕ) (f : Format) → format_of n ≡ Is f → (line out : List ℕ) (count : ℕ) → write_line_answer n line out ≡ written.Put count → Wrote f line (write_line_left n line out) count
+wrote : (n : ℕ) (f : Format) → format_of n ≡ Ok f → (line out : List ℕ) (count : ℕ) → write_line_answer n line out ≡ Ok count → Wrote f line (write_line_left n line out) count
 unfolding write_line_answer write_line_left write_line_refusal wire_bytes
 wrote n f e line out count answer =
-    let u = unrefused written.Refused (write_line_refusal n (length line) (length out)) (written.Put (named_by n).bytes) (written.Put count)
-    (λ j h. let z : ◌≡◌ {A = ℕ} 0 1 = cc in let w : ⊥ = omega arith in w) answer in
-    let many : (named_by n).bytes ≡ count = let h = u.1 in cc in
+    let u = answered_ok (write_line_refusal n (length line) (length out)) (named_by n).bytes count answer in
     let tests = none_second (format_refusal n) _ u.0 in
     record {
       full = enough (length line) line_bytes 2 (λ z. omega arith) (none_first (short_of (length line) line_bytes 2) _ tests);
       put =
           ap (take count) (kept_none (write_line_refusal n (length line) (length out)) out _ u.0)
-          ∙ take_at (wire_bytes (named_by n) line) (drop (named_by n).bytes out) count (length_fields 8 (named_by n).bytes _ ∙ many)
+          ∙ take_at (wire_bytes (named_by n) line) (drop (named_by n).bytes out) count (length_fields 8 (named_by n).bytes _ ∙ u.1)
           ∙ ap (λ (g : Format). wire_bytes g line) (named_by_is n f e)
           ∙ ap (λ (x : List ℕ). fields_of 8 f.bytes (on_wire f (bits_of x))) (sym (take-take line_bytes line_bytes line (omega arith)));
     }
 
 -- what they make is the recording of the plain lines
-pub recording_is : (n : ℕ) (f : Format) → format_of n ≡ Is f → {ls : List (List ℕ)} {bytes : List ℕ} → Recording n ls bytes
+pub recording_is : (n : ℕ) (f : Format) → format_of n ≡ Ok f → {ls : List (List ℕ)} {bytes : List ℕ} → Recording n ls bytes
     → PlainLines (map (take line_bytes) ls) × (bytes ≡ recording_of f (map (take line_bytes) ls))
 unfolding PlainLines recording_of
 recording_is n f e trip.Recording.none = (tt, refl)
@@ -96,7 +93,7 @@ held_back n ls i sector w buf h full stands =
     let table = one_of w sector c.low c.high in
     comes_back n sector buf full w (line_carries n sector w (get_or ls i []) buf (holds_full n sector w h) full (stands ∙ nth_line ls i) table.0 table.1 c)
 
-module _ (n : ℕ) (f : Format) (e : format_of n ≡ Is f) (setting : ℕ) (small : setting ≤ largest_setting)
+module _ (n : ℕ) (f : Format) (e : format_of n ≡ Ok f) (setting : ℕ) (small : setting ≤ largest_setting)
     (lend : ℕ → List ℕ → List ℕ) (long : (k : ℕ) (buf : List ℕ) → 44356 ≤ length buf → 44356 ≤ length (lend k buf)) (first : List ℕ) (room : 44356 ≤ length first)
     {ls : List (List ℕ)} {recording : List ℕ} (r : Recording n ls recording) where
   -- DEMAND 2. What is put into the sectors of plain lines, the lines written, their recording cut in any way and read by a fresh

@@ -6,7 +6,7 @@ use lib.ListN.{length, take}
 use Rattle.bits.specs.Bits.{bits_of, in_arow}
 use Rattle.formats.specs.Formats.{format_of}
 use Rattle.formats.specs.declared.Format.{Format}
-use Rattle.formats.specs.declared.FormatAnswer.TheVariants.{Is}
+use Rattle.std.specs.Prelude.{Ok}
 use Rattle.reader_bits.specs.Lines.{lines, recorded}
 use Rattle.reader_record.specs.Records.{fresh_state}
 use Rattle.reader_refusals.specs.Refusing.{largest_setting}
@@ -19,7 +19,7 @@ use Rattle.demands.specs.Demand3.{Demand3}
 use Rattle.demands.proofs.OneLine.{a_line_is_a_line}
 
 -- THE DEMAND, at every setting, of any full-size buffers
-module _ (f : ℕ) (format : Format) (ok : format_of f ≡ Is format) (setting : ℕ) (small : setting ≤ largest_setting)
+module _ (f : ℕ) (format : Format) (ok : format_of f ≡ Ok format) (setting : ℕ) (small : setting ≤ largest_setting)
     (lend : ℕ → List ℕ → List ℕ) (long : (k : ℕ) (buf : List ℕ) → 44356 ≤ length buf → 44356 ≤ length (lend k buf)) (first : List ℕ) (room : 44356 ≤ length first) where
   first_lines : (ps ls : List (List ℕ)) → Driven f setting lend 0 fresh_state first ps ls → (xs ys : List ℕ) → bits_of (in_arow ps) ≡ xs ++ ys → take (length (lines setting xs)) ls ≡ lines setting xs
   unfolding recorded

@@ -11,7 +11,7 @@ use Rattle.bits.specs.Bits.{bits_of, Below, in_arow}
 use Rattle.bits.proofs.Fields.{packed_inj}
 use Rattle.formats.specs.Formats.{format_of, line_bytes}
 use Rattle.formats.specs.declared.Format.{Format}
-use Rattle.formats.specs.declared.FormatAnswer.TheVariants.{Is}
+use Rattle.std.specs.Prelude.{Ok}
 use Rattle.cuts.specs.Driven.{Driven, line_in}
 use Rattle.reader_bits.specs.Lines.{recorded}
 use Rattle.reader_record.specs.Records.{fresh_state}
@@ -23,7 +23,7 @@ use Rattle.demands.proofs.RoundTrip.{round_trip}
 -- DEMAND 2 WITH DEMAND 3: the recording of any run of plain lines, cut into any pieces, read by a fresh reader at any
 -- setting with any full-size buffers: the lines handed out are exactly those lines, in order. What was written in one format may be
 -- read in another: where the lines stand does not go by it
-pub there_and_back : (n : ℕ) (f : Format) → format_of n ≡ Is f → (m : ℕ) (g : Format) → format_of m ≡ Is g → (setting : ℕ) → setting ≤ largest_setting
+pub there_and_back : (n : ℕ) (f : Format) → format_of n ≡ Ok f → (m : ℕ) (g : Format) → format_of m ≡ Ok g → (setting : ℕ) → setting ≤ largest_setting
     → (lend : ℕ → List ℕ → List ℕ) → ((k : ℕ) (buf : List ℕ) → 44356 ≤ length buf → 44356 ≤ length (lend k buf)) → (buf : List ℕ) → 44356 ≤ length buf
     → (ls : List (List ℕ)) → PlainLines ls → (ps : List (List ℕ)) → in_arow ps ≡ recording_of f ls
     → (out : List (List ℕ)) → Driven m setting lend 0 fresh_state buf ps out ↔ (out ≡ map bits_of ls)

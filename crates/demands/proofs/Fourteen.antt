@@ -10,8 +10,9 @@ use lib.ListN.{length}
 use Rattle.refusals.proofs.Exactly.{exactly}
 use Rattle.refusals.proofs.Words.{kept_none}
 use Rattle.bits.specs.Bits.{stretch}
-use Rattle.numbers.specs.declared.Integer.{Integer}
-use Rattle.numbers.specs.Integers.{integer_number, integer_value}
+use Rattle.std.specs.Prelude.{Result}
+use Rattle.refusals.specs.declared.Refusal.{Refusal}
+use Rattle.refusals.specs.Refusals.{answer_number, answer_value}
 use Rattle.sector_table.specs.Place.{doc_part, doc_from}
 use Rattle.document_fields.specs.Fields.{IntegerFieldOk}
 use Rattle.blocks.specs.declared.assembly.Assembly.{Assembly}
@@ -23,8 +24,8 @@ use Rattle.demands.specs.Orders.{carried_tests, copy_test}
 use Rattle.demands.proofs.Orders.{orders, carried_when}
 
 -- THE NUMBERS OF A LINE are those that `integer_field` reads, as I*2 at bytes 28 and 30
-pub by_fields : (f : ℕ) (line : List ℕ) (r s : Integer) → IntegerFieldOk f line 28 2 r → IntegerFieldOk f line 30 2 s → integer_number r ≡ 0 → integer_number s ≡ 0
-    → (integer_value r ≡ (revisions_in line).calibration) × (integer_value s ≡ (revisions_in line).manam)
+pub by_fields : (f : ℕ) (line : List ℕ) (r s : Result ℕ Refusal) → IntegerFieldOk f line 28 2 r → IntegerFieldOk f line 30 2 s → answer_number r ≡ 0 → answer_number s ≡ 0
+    → (answer_value 0 r ≡ (revisions_in line).calibration) × (answer_value 0 s ≡ (revisions_in line).manam)
 unfolding revisions_in doc_part doc_from stretch
 by_fields f line r s p q z w = (p.1 ∙ kept_none _ _ _ (sym p.0 ∙ z), q.1 ∙ kept_none _ _ _ (sym q.0 ∙ w))
 

@@ -15,7 +15,7 @@ use Rattle.bits.proofs.Stretches.{stretch_length}
 use Rattle.bits.proofs.Distance.{apart_self, apart_sym, apart_triangle, apart_front, apart_take_le}
 use Rattle.formats.specs.Formats.{format_of, information_bits}
 use Rattle.formats.specs.declared.Format.{Format}
-use Rattle.formats.specs.declared.FormatAnswer.TheVariants.{Is}
+use Rattle.std.specs.Prelude.{Ok}
 use Rattle.formats.proofs.Which.{of_each}
 use Rattle.scramble.specs.Register.{new_bit, next_register, scrambling_bits}
 use Rattle.scramble.specs.Sync.{earlier_register, register_before, SYNC, tail}
@@ -162,7 +162,7 @@ same_near k h sent = record {
 
 -- ---- what is written
 
-long_enough : (n : ℕ) (f : Format) → format_of n ≡ Is f → 127 ≤ f.sync
+long_enough : (n : ℕ) (f : Format) → format_of n ≡ Ok f → 127 ≤ f.sync
 long_enough = of_each (λ f. 127 ≤ f.sync) (lit≤ tt) (lit≤ tt) (lit≤ tt)
 
 sync_end : (f : Format) → 127 ≤ f.sync → drop (f.sync - 127) (SYNC f.sync) ≡ SYNC 127
@@ -172,7 +172,7 @@ length_dummy : (f : Format) → length (dummy_of information_bits f.dummy) ≡ f
 unfolding dummy_of
 length_dummy f = length_wire information_bits _ _ ∙ length-replicate f.dummy 0
 
-module _ (n : ℕ) (f : Format) (e : format_of n ≡ Is f) where
+module _ (n : ℕ) (f : Format) (e : format_of n ≡ Ok f) where
   abbrev dummy : List ℕ
   dummy = dummy_of information_bits f.dummy
 
@@ -205,5 +205,5 @@ module _ (n : ℕ) (f : Format) (e : format_of n ≡ Is f) where
   pub dummy_short : length dummy < information_bits
   dummy_short = rw (length_dummy f) (short n f e)
     where
-      short : (n : ℕ) (f : Format) → format_of n ≡ Is f → f.dummy < information_bits
+      short : (n : ℕ) (f : Format) → format_of n ≡ Ok f → f.dummy < information_bits
       short = of_each (λ f. f.dummy < information_bits) (lit< tt) (lit< tt) (lit< tt)

@@ -15,7 +15,7 @@ use Rattle.bits.specs.Bits.{packed_of, bits_of, in_arow}
 use Rattle.bits.proofs.Bytes.{length_bits, bits_below, bits_append}
 use Rattle.formats.specs.Formats.{format_of, information_bits}
 use Rattle.formats.specs.declared.Format.{Format}
-use Rattle.formats.specs.declared.FormatAnswer.TheVariants.{Is}
+use Rattle.std.specs.Prelude.{Ok}
 use Rattle.scramble.specs.Sync.{SYNC, fifteen_ones}
 use Rattle.scramble.proofs.Wire.{length_wire}
 use Rattle.wire.specs.Parts.{information_of, line_of, dummy_of}
@@ -36,7 +36,7 @@ use Rattle.demands.proofs.Run.{found_none, found_line}
 abbrev pub lines_in : List Received → List (List ℕ)
 lines_in rs = map (λ (r : Received). line_of r.information) rs
 
-module _ (n : ℕ) (f : Format) (e : format_of n ≡ Is f) where
+module _ (n : ℕ) (f : Format) (e : format_of n ≡ Ok f) where
   abbrev dummy : List ℕ
   dummy = dummy_of information_bits f.dummy
 

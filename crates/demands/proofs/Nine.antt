@@ -10,7 +10,7 @@ use lib.ListN.{take, drop}
 use Rattle.bits.specs.Bits.{apart}
 use Rattle.formats.specs.Formats.{svissr, hirid, svissr_ones, format_of}
 use Rattle.formats.specs.declared.Format.{Format}
-use Rattle.formats.specs.declared.FormatAnswer.TheVariants.{Is}
+use Rattle.std.specs.Prelude.{Ok}
 use Rattle.formats.proofs.Which.{of_each}
 use Rattle.scramble.specs.Register.{new_bit, next_register, scrambling_bits}
 use Rattle.scramble.specs.Sync.{earlier_register, register_before, SYNC, tail}
@@ -41,7 +41,7 @@ unfolding first_searched
 nine_3 w = record { before_first = w.before_first; before_next = w.before_next; place = 5782; before = lit< tt; met = at_1 }
 
 -- THE NUMBER
-pub nine : (n : ℕ) (f : Format) → format_of n ≡ Is f → Smallest f 9
+pub nine : (n : ℕ) (f : Format) → format_of n ≡ Ok f → Smallest f 9
 nine n f e = of_each (λ g. Windows g → Smallest g 9) nine_1 nine_2 nine_3 n f e (earlier_apart n f e)
 
 -- and there is one such number
@@ -52,6 +52,6 @@ only_one x y =
     omega (arith, p, q, x.met, y.met)
 
 -- at the setting 9 a window before the true one counts as the tail
-pub nine_too_many : (n : ℕ) (f : Format) (e : format_of n ≡ Is f) → is_tail 9 (take 64 (drop (nine n f e).place (first_searched f))) ≡ true
+pub nine_too_many : (n : ℕ) (f : Format) (e : format_of n ≡ Ok f) → is_tail 9 (take 64 (drop (nine n f e).place (first_searched f))) ≡ true
 unfolding is_tail
 nine_too_many n f e = le-leb (apart tail (take 64 (drop (nine n f e).place (first_searched f)))) 9 (omega (arith, (nine n f e).met))

@@ -9,7 +9,7 @@ use lib.ListN.{length, get_or, drop, get_or-append}
 use Rattle.bits.proofs.Fields.{length_fields}
 use Rattle.formats.specs.Formats.{format_of}
 use Rattle.formats.specs.declared.Format.{Format}
-use Rattle.formats.specs.declared.FormatAnswer.TheVariants.{Is}
+use Rattle.std.specs.Prelude.{Ok}
 use Rattle.reader_bits.specs.Lines.{recorded}
 use Rattle.reader_record.specs.declared.State.{State}
 use Rattle.reader_refusals.specs.Refusing.{largest_setting}
@@ -57,7 +57,7 @@ joined_pixel_is f channel buf out e i h =
     ∙ joined_at xs ys i same (omega (arith, lx))
 
 -- THE CLAIM: a fresh reader on one format at one setting and full-size buffers, at any moment at which a line stands
-pub a_line_is_a_line : (f : ℕ) (format : Format) → format_of f ≡ Is format → (setting : ℕ) → setting ≤ largest_setting
+pub a_line_is_a_line : (f : ℕ) (format : Format) → format_of f ≡ Ok format → (setting : ℕ) → setting ≤ largest_setting
     → (lend : ℕ → List ℕ → List ℕ) → ((k : ℕ) (buf : List ℕ) → 44356 ≤ length buf → 44356 ≤ length (lend k buf)) → (first : List ℕ) → 44356 ≤ length first
     → {k : ℕ} {s : State} {buf bytes : List ℕ} {ls : List (List ℕ)} (m : Moment f setting lend first k s buf bytes ls) → Standing m → OneLine f (recorded setting bytes) buf
 a_line_is_a_line f format ok setting small lend long first room {buf = buf} m whole =

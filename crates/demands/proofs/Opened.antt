@@ -2,7 +2,7 @@
 -- every format. Assumes nothing.
 use mathlib.Core.List.{List, [], ◌∷◌, ◌++◌, append_assoc}
 use mathlib.Core.Path.{◌≡◌, refl, sym, ap, ap₂, ◌∙◌}
-use Prim.Native.Nat.{ℕ, zero, suc, ◌+◌, ◌-◌, ◌*◌, ◌/◌, ◌≤◌, ◌<◌}
+use Prim.Native.Nat.{ℕ, zero, suc, ◌+◌, ◌-◌, ◌*◌, ◌/◌, ◌≤◌}
 use native.Mathlib.Nat.{zero-add, suc-add, zero-mul, suc-mul}
 use native.Mathlib.Omega.{arith}
 use lib.Dec.{lit<}
@@ -12,7 +12,7 @@ use Rattle.bits.specs.Bits.{bits_of, fields_of, number_of, Below}
 use Rattle.bits.proofs.Fields.{fields_packed}
 use Rattle.formats.specs.Formats.{format_of, information_bits, line_bytes}
 use Rattle.formats.specs.declared.Format.{Format}
-use Rattle.formats.specs.declared.FormatAnswer.TheVariants.{Is}
+use Rattle.std.specs.Prelude.{Ok}
 use Rattle.formats.proofs.Which.{parts}
 use Rattle.scramble.specs.Sync.{SYNC}
 use Rattle.wire.specs.Parts.{information_of, dummy_of}
@@ -45,7 +45,7 @@ four_below : Below 256 four
 unfolding four Below
 four_below = (lit< tt, (lit< tt, (lit< tt, (lit< tt, tt))))
 
-pub opened : (n : ℕ) (f : Format) (rest : List ℕ) → format_of n ≡ Is f → line_bytes ≤ length (0x00 ∷ 0x00 ∷ 0x00 ∷ 0x00 ∷ rest)
+pub opened : (n : ℕ) (f : Format) (rest : List ℕ) → format_of n ≡ Ok f → line_bytes ≤ length (0x00 ∷ 0x00 ∷ 0x00 ∷ 0x00 ∷ rest)
     → take 4 (drop (f.sync / 8) (wire_bytes f (0x00 ∷ 0x00 ∷ 0x00 ∷ 0x00 ∷ rest))) ≡ 0x00 ∷ 0xfd ∷ 0x00 ∷ 0xf3 ∷ []
 unfolding wire_bytes on_wire four information_of
 opened n f rest e h =

@@ -2,11 +2,11 @@
 use mathlib.Core.Path.{◌≡◌, refl, sym, ap, ap₂, ◌∙◌}
 use mathlib.Core.Bool.{Bool, true, false, ◌||◌}
 use mathlib.Core.List.{List, [], ◌∷◌, ◌++◌}
-use Prim.Native.Nat.{ℕ, ◌+◌, ◌-◌, ◌≤◌}
+use Prim.Native.Nat.{ℕ, ◌+◌, ◌≤◌}
 use native.Mathlib.Omega.{arith}
 use lib.Dec.{leb, lit≤}
 use lib.ListN.{length, drop}
-use Rattle.refusals.specs.Refusals.{first, when, short_of, outside, outside_of, answered}
+use Rattle.refusals.specs.Refusals.{first, when, short_of, outside, outside_of, answered, refuses}
 use Rattle.refusals.specs.Order.{Test, first_of}
 use Rattle.refusals.proofs.Words.{first_none, none_first, none_second}
 use Rattle.refusals.proofs.Chains.{first_assoc, first_zero, first_as, first_again, chain_then}
@@ -30,11 +30,13 @@ use Rattle.report_record.specs.Possible.{record_refusal}
 use Rattle.report.specs.Calls.{full_refusal, with_line_refusal, together_refusal}
 use Rattle.desk_refusals.specs.Asked.{count_refusal}
 use Rattle.desk.specs.Calls.{fresh_answer}
+use Rattle.desk_record.specs.Desks.{empty_desk}
+use Rattle.refusals.proofs.Answered.{answered_number, tabled_outside}
 use Rattle.histories.proofs.Refused.{take_tests_is, publish_tests, release_tests}
 use Rattle.numbers.specs.Integers.{read_integer_refusal}
 use Rattle.numbers.specs.Decimals.{some_over9, digits_in, decimal_of, read_bcd_refusal}
 use Rattle.numbers.specs.Reals.{no_real, form_refusal, read_real_refusal}
-use Rattle.numbers.specs.declared.Bcd.TheVariants as bcd
+use Rattle.std.specs.Prelude.{Ok}
 use Rattle.number_writer.specs.Written.{put_real_refusal}
 use Rattle.bcd_dates.specs.Decimals.{part_number, part_refusal}
 use Rattle.bcd_dates.proofs.Digits.{bcd_digits}
@@ -77,7 +79,7 @@ part_when bytes at n low high some few h = ap (part_number low high) (bcd_digits
     ds : List ℕ
     ds = digits_in n (drop at bytes)
 
-    go : (t : Bool) → part_number low high (answered bcd.Refused (when t 7) (bcd.Is (in_base 10 ds))) ≡ when (t || outside low high (in_base 10 ds)) 7
+    go : (t : Bool) → part_number low high (answered refuses (when t 7) (Ok (in_base 10 ds))) ≡ when (t || outside low high (in_base 10 ds)) 7
     go true = unfold when answered in refl
     go false = unfold when answered in refl
 
@@ -89,7 +91,7 @@ doc_when f line = doc_order f line ∙ simp (refused_when, first_zero) refl
 -- what follows it is looked at only where the line is long enough
 behind_doc : (f : ℕ) (line : List ℕ) (more : ℕ) (tests : List Test) → (line_bytes ≤ length line → more ≡ first_of tests) → first (doc_refusal f line) more ≡ first_of (doc_tests f line ++ tests)
 behind_doc f line more tests h =
-    first_as (doc_refusal f line) more (first_of tests) (λ z. h (doc_long f line z)) ∙ chain_then (doc_refusal f line) (first_of tests) (doc_tests f line) tests (doc_when f line) refl
+    first_as (doc_refusal f line) more (first_of tests) (λ z. h (doc_long f line (sym z))) ∙ chain_then (doc_refusal f line) (first_of tests) (doc_tests f line) tests (doc_when f line) refl
 
 counts_when : (line : List ℕ) → line_bytes ≤ length line
     → counts_refusal line ≡ first_of (count_tests line)
@@ -169,7 +171,7 @@ orders = record {
   put_data = λ f long n given. record { by_table = refl; given = simp (refused_when, first_assoc, first_zero) refl };
   with_line = λ f r given. record { by_table = refl; given = simp (refused_when, first_zero) refl };
   together = λ a b. record { by_table = refl; given = simp (first_assoc, first_zero) refl };
-  fresh_desk = λ count. record { by_table = refl; given = simp (first_zero) refl };
+  fresh_desk = λ count. record { by_table = refl; given = answered_number (outside_of 2 8 count 19) (empty_desk count) (tabled_outside 2 8 count 19 refl) ∙ simp (first_zero) refl };
   take = λ d area. record { by_table = refl; given = take_tests_is d area };
   publish = λ d area i n. record { by_table = refl; given = publish_tests d area i n };
   release = λ d area c i n. record { by_table = refl; given = release_tests d area c i n };

@@ -4,26 +4,24 @@ use mathlib.Core.List.{List}
 use mathlib.Core.Path.{◌≡◌, refl, sym, ap, ◌∙◌}
 use Prim.Native.Nat.{ℕ}
 use Rattle.bits.specs.Bits.{bits_of, Below}
-use Rattle.refusals.specs.Refusals.{kept}
+use Rattle.std.specs.Prelude.{Result, Ok, Err}
+use Rattle.refusals.specs.declared.Refusal.{Refusal}
+use Rattle.refusals.specs.Refusals.{kept, answer_number, answer_value}
 use Rattle.refusals.proofs.Words.{kept_some}
 use Rattle.scramble.specs.Step.{register_left}
 use Rattle.sync.specs.Put.{put_sync_left}
 use Rattle.reader.specs.Read.{read_left}
+use Rattle.sector_check.proofs.Each.{number_stays}
 use Rattle.pixels.specs.Calls.{data_left, pixels_left}
 use Rattle.channels.specs.Join.{joined_left}
 use Rattle.visible.specs.Strip.{strip_left}
 use Rattle.sector_writer.specs.Calls.{put_data_left, put_pixels_left}
 use Rattle.writer.specs.Wire.{write_line_left}
-use Rattle.report.specs.declared.Reported.{Reported}
-use Rattle.report.specs.Calls.{with_line_answer, together_answer}
 use Rattle.desk.specs.declared.Taken.{Taken}
-use Rattle.desk.specs.declared.Changed.{Changed}
 use Rattle.desk.specs.declared.Part.{Part}
-use Rattle.desk.specs.Calls.{take_answer, publish_answer, release_answer, seen_answer}
 use Rattle.number_writer.specs.Written.{put_real_left}
-use Rattle.segments.specs.Assembly.{added_number, assembly_after}
-use Rattle.segments.specs.declared.Added.{Added}
-use Rattle.segments.specs.declared.Added.TheVariants.{Is, Refused}
+use Rattle.segments.specs.Assembly.{assembly_after}
+use Rattle.segments.specs.declared.Placed.{Placed}
 use Rattle.segments.proofs.Settled.{add_segment_is}
 use Rattle.blocks.specs.declared.assembly.Assembly.{Assembly}
 use Rattle.assemblies.proofs.Skips.{block_refused}
@@ -39,15 +37,20 @@ stays n k was becomes x e left refused = left ∙ kept_some k was becomes (λ z.
 stays_bytes : (n k : ℕ) (becomes was x : List ℕ) → Below 256 was → Below 256 x → n ≡ k → bits_of x ≡ kept k (bits_of was) becomes → Refuses n → x ≡ was
 stays_bytes n k becomes was x hw hx e left refused = unique_bytes (bits_of was) x was hx hw (stays n k (bits_of was) becomes (bits_of x) e left refused) refl
 
+-- a refused call gives nothing: what it leaves is what stands for nothing
+nothing_of : {A : Type 0} (nothing : A) (r : Result A Refusal) → Refuses (answer_number r) → answer_value nothing r ≡ nothing
+nothing_of nothing (Ok x) refused = absurd (refused refl)
+nothing_of nothing (Err e) refused = refl
+
 -- an assembly goes on with the block and the record that it had
-assembly_stays : (f : ℕ) (a : Assembly) (line : List ℕ) (number : ℕ) (block : List ℕ) (r : Added) (x : List ℕ)
-    → AddSegment f a line number block r x → Refuses (added_number r) → (x ≡ block) × (assembly_after a r ≡ a)
-assembly_stays f a line number block (Is p) x c refused = absurd (refused refl)
-assembly_stays f a line number block (Refused k) x c refused =
-    (c.1 ∙ block_refused f a line number block k (sym (add_segment_is f a line number block (Refused k) c.0)), refl)
+assembly_stays : (f : ℕ) (a : Assembly) (line : List ℕ) (number : ℕ) (block : List ℕ) (r : Result Placed Refusal) (x : List ℕ)
+    → AddSegment f a line number block r x → Refuses (answer_number r) → (x ≡ block) × (assembly_after a r ≡ a)
+assembly_stays f a line number block (Ok p) x c refused = absurd (refused refl)
+assembly_stays f a line number block (Err e) x c refused =
+    (c.1 ∙ block_refused f a line number block e (sym (add_segment_is f a line number block (Err e) c.0)), refl)
 
 pub refusals : Refusals
-unfolding register_left put_sync_left read_left data_left pixels_left joined_left strip_left put_data_left put_pixels_left write_line_left put_real_left with_line_answer together_answer take_answer publish_answer release_answer seen_answer
+unfolding register_left put_sync_left read_left data_left pixels_left joined_left strip_left put_data_left put_pixels_left write_line_left put_real_left
 refusals = record {
   stepped = λ register r c h. stays _ _ register _ r.next.bits c.0.0 c.1 h;
   step = λ register r x c h. stays _ _ register _ x c.0.0 c.1 h;
@@ -62,22 +65,19 @@ refusals = record {
   data_of = λ f line sector out r x c h. stays _ _ out _ x c.0 c.1 h;
   pixels = λ lo hi f line sector out r x c h. stays _ _ out _ x c.0 c.1 h;
   joined = λ f line channel out r x c h. stays _ _ out _ x c.0 c.1 h;
-  strip = λ f line out r x c h. stays _ _ out _ x c.0.0 c.1 h;
+  strip = λ f line out r x c h. stays _ _ out _ x (sym (number_stays r) ∙ c.0.0) c.1 h;
   put_data = λ f line sector bytes r x hw hx c h. stays_bytes _ _ _ line x hw hx c.0 c.1 h;
   put_pixels = λ lo hi f line sector ps r x hw hx c h. stays_bytes _ _ _ line x hw hx c.0 c.1 h;
-  with_line = λ f report line r e h. stays _ _ report _ r.report (ap (λ (x : Reported). x.refused) e) (ap (λ (x : Reported). x.report) e) h;
-  together = λ a b r e h. stays _ _ a _ r.report (ap (λ (x : Reported). x.refused) e) (ap (λ (x : Reported). x.report) e) h;
-  take = λ d area r e h. (
-    stays _ _ d _ r.desk (ap (λ (x : Taken). x.refused) e) (ap (λ (x : Taken). x.desk) e) h,
-    stays _ _ 0 _ r.slot (ap (λ (x : Taken). x.refused) e) (ap (λ (x : Taken). x.slot) e) h,
-    stays _ _ 0 _ r.serial (ap (λ (x : Taken). x.refused) e) (ap (λ (x : Taken). x.serial) e) h,
-  );
-  publish = λ d area i n r e h. stays _ _ d _ r.desk (ap (λ (x : Changed). x.refused) e) (ap (λ (x : Changed). x.desk) e) h;
-  release = λ d area c i n r e h. stays _ _ d _ r.desk (ap (λ (x : Changed). x.refused) e) (ap (λ (x : Changed). x.desk) e) h;
-  seen = λ d area c i n r e h. (
-    stays _ _ 0 _ r.from (ap (λ (x : Part). x.refused) e) (ap (λ (x : Part). x.from) e) h,
-    stays _ _ 0 _ r.to (ap (λ (x : Part). x.refused) e) (ap (λ (x : Part). x.to) e) h,
-  );
-  put_real = λ negative magnitude n m out r x c h. stays _ _ out _ x c.0.0 c.1 h;
+  with_line = λ f report line r e h. nothing_of report r h;
+  together = λ a b r e h. nothing_of a r h;
+  take = λ d area r e h.
+      let none = nothing_of (record { slot = 0; serial = 0; desk = d }) r h in
+      (ap (λ (t : Taken). t.desk) none, ap (λ (t : Taken). t.slot) none, ap (λ (t : Taken). t.serial) none);
+  publish = λ d area i n r e h. nothing_of d r h;
+  release = λ d area c i n r e h. nothing_of d r h;
+  seen = λ d area c i n r e h.
+      let none = nothing_of (record { from = 0; to = 0 }) r h in
+      (ap (λ (p : Part). p.from) none, ap (λ (p : Part). p.to) none);
+  put_real = λ negative magnitude n m out r x c h. stays _ _ out _ x c.0 c.1 h;
   add_segment = assembly_stays;
 }

@@ -13,7 +13,7 @@ use Rattle.bits.proofs.Bytes.{length_bits, bits_below, bits_append}
 use Rattle.bits.proofs.Fields.{packed_fields}
 use Rattle.formats.specs.Formats.{format_of, information_bits, line_bytes}
 use Rattle.formats.specs.declared.Format.{Format}
-use Rattle.formats.specs.declared.FormatAnswer.TheVariants.{Is}
+use Rattle.std.specs.Prelude.{Ok}
 use Rattle.scramble.specs.Sync.{SYNC, fifteen_ones}
 use Rattle.wire.specs.Parts.{information_of, line_of, dummy_of}
 use Rattle.scramble.proofs.Wire.{length_wire}
@@ -30,10 +30,10 @@ use Rattle.demands.proofs.Run.{found_none, run_of, Back, run_found}
 sent_leads : (setting : ℕ) → setting < 9 → (sent : List ℕ) → Guarded sent → LeadsTail setting (length sent - 64) sent
 sent_leads setting below sent g = leading_leads setting sent sent g (near_leading setting sent sent g (same_near setting below sent))
 
-pub sync_leads : (n : ℕ) (f : Format) → format_of n ≡ Is f → (setting : ℕ) → setting < 9 → LeadsTail setting (length (SYNC f.sync) - 64) (SYNC f.sync)
+pub sync_leads : (n : ℕ) (f : Format) → format_of n ≡ Ok f → (setting : ℕ) → setting < 9 → LeadsTail setting (length (SYNC f.sync) - 64) (SYNC f.sync)
 sync_leads n f e setting below = sent_leads setting below (SYNC f.sync) (sync_guarded n f e)
 
-pub dummy_leads : (n : ℕ) (f : Format) → format_of n ≡ Is f → (setting : ℕ) → setting < 9
+pub dummy_leads : (n : ℕ) (f : Format) → format_of n ≡ Ok f → (setting : ℕ) → setting < 9
     → LeadsTail setting (length (dummy_of information_bits f.dummy ++ SYNC f.sync) - 64) (dummy_of information_bits f.dummy ++ SYNC f.sync)
 dummy_leads n f e setting below =
     sent_leads setting below (dummy_of information_bits f.dummy ++ SYNC f.sync) (dummy_guarded n f e)
@@ -41,7 +41,7 @@ dummy_leads n f e setting below =
 -- ---- the recording, in bits
 
 -- the writer's bytes have the bits of one line on the wire
-pub wire_bits : (n : ℕ) (f : Format) (l : List ℕ) → format_of n ≡ Is f → PlainLine l → bits_of (wire_bytes f l) ≡ on_wire f (bits_of l)
+pub wire_bits : (n : ℕ) (f : Format) (l : List ℕ) → format_of n ≡ Ok f → PlainLine l → bits_of (wire_bytes f l) ≡ on_wire f (bits_of l)
 unfolding bits_of wire_bytes
 wire_bits n f l e p =
     let whole : line_bytes ≤ length l = omega (arith, p.long) in
@@ -51,7 +51,7 @@ wire_bits n f l e p =
     ∙ take_all (f.bytes * 8) (on_wire f (bits_of (take line_bytes l))) (omega arith)
     ∙ ap (λ (x : List ℕ). on_wire f (bits_of x)) all
 
-module _ (n : ℕ) (f : Format) (e : format_of n ≡ Is f) (setting : ℕ) (below : setting < 9) where
+module _ (n : ℕ) (f : Format) (e : format_of n ≡ Ok f) (setting : ℕ) (below : setting < 9) where
   abbrev dummy : List ℕ
   dummy = dummy_of information_bits f.dummy
 

@@ -6,15 +6,19 @@ use mathlib.Core.Path.{◌≡◌, sym, ap, ap₂, ◌∙◌}
 use Prim.Native.Nat.{ℕ, ◌*◌}
 use native.Mathlib.Omega.{arith}
 use lib.ListN.{length}
+use Rattle.std.specs.Prelude.{Result}
+use Rattle.refusals.specs.declared.Refusal.{Refusal}
+use Rattle.refusals.specs.Refusals.{answer_number}
+use Rattle.refusals.proofs.Numbers.{number_one}
 use Rattle.bits.specs.Bits.{bits_of, Below}
 use Rattle.bits.proofs.Bytes.{length_bits}
 use Rattle.bits.proofs.Fields.{packed_inj}
 use Rattle.formats.proofs.Settled.{format_is}
-use Rattle.scramble.specs.declared.StepBit.{StepBit}
 use Rattle.scramble.proofs.Settled.{step_is}
 use Rattle.sync.proofs.Settled.{put_sync_is}
 use Rattle.reader.proofs.Settled.{read_is}
-use Rattle.sectors.proofs.Settled.{filler_is}
+use Rattle.sector_check.proofs.Each.{in_numbers_one}
+use Rattle.sectors.proofs.Settled.{filler_is, answers_are}
 use Rattle.visible.proofs.Settled.{strip_is}
 use Rattle.writer.proofs.Settled.{write_line_is}
 use Rattle.floats.proofs.Settled.{read_f64_is}
@@ -54,32 +58,44 @@ equations right left = settled_with (λ r. r ≡ right) right left (λ r p. p)
 pub in_bytes : {A : Type 0} (right : A) (left : List ℕ) → OneInBytes (λ (r : A) (x : List ℕ). (r ≡ right) × (bits_of x ≡ left))
 in_bytes right left r s x y hx hy p q = (p.0 ∙ sym q.0, unique_bytes left x y hx hy p.1 q.1)
 
+-- an answer that gives nothing but whether it is refused
+numbered : (k : ℕ) → One (λ (r : Result (Unit {0}) Refusal). answer_number r ≡ k)
+numbered k r s p q = number_one r s (p ∙ sym q)
+
+numbered_with : {B : Type 0} (k : ℕ) (left : B) → OneWith (λ (r : Result (Unit {0}) Refusal) (x : B). (answer_number r ≡ k) × (x ≡ left))
+numbered_with k left r s x y p q = (numbered k r s p.0 q.0, p.1 ∙ sym q.1)
+
+numbered_in_bytes : (k : ℕ) (left : List ℕ) → OneInBytes (λ (r : Result (Unit {0}) Refusal) (x : List ℕ). (answer_number r ≡ k) × (bits_of x ≡ left))
+numbered_in_bytes k left r s x y hx hy p q = (numbered k r s p.0 q.0, unique_bytes left x y hx hy p.1 q.1)
+
 -- ---- the rows
 
 pub unique : Unique
 unique = record {
+  number = λ e. equation _;
+  number_in = λ a. equation _;
   format_1 = equation _;
   format_2 = equation _;
   format_3 = equation _;
   format-of = λ n. settled _ _ (format_is n);
   stepped = λ register r s p q.
-      ap₂ (λ (a : StepBit) (b : ℕ). record { next = record { bits = b }; answer = a }) (settled _ _ (step_is register) r.answer s.answer p.0 q.0) (p.1 ∙ sym q.1);
+      ap₂ (λ (a : Result ℕ Refusal) (b : ℕ). record { next = record { bits = b }; answer = a }) (settled _ _ (step_is register) r.answer s.answer p.0 q.0) (p.1 ∙ sym q.1);
   step = λ register. settled_with _ _ _ (step_is register);
   put_sync = λ f out. settled_with _ _ _ (put_sync_is f out);
   fresh = equation _;
   read = λ f k s piece line. settled_with _ _ _ (read_is f k s piece line);
   write_line = λ f line out. settled_with _ _ _ (write_line_is f line out);
-  accepted = λ f line sector. equation _;
-  answers = λ f line. equation _;
+  accepted = λ f line sector. numbered _;
+  answers = λ f line r s p q. in_numbers_one r s (answers_are f line r p ∙ sym (answers_are f line s q));
   filler = λ f line sector. settled _ _ (filler_is f line sector);
-  data_of = λ f line sector out. equations _ _;
-  pixels = λ f line sector out. equations _ _;
-  pixels_wide = λ f line sector out. equations _ _;
-  joined = λ f line channel out. equations _ _;
-  strip = λ f line out. settled_with _ _ _ (strip_is f line out);
-  put_data = λ f line sector bytes. in_bytes _ _;
-  put_pixels = λ f line sector ps. in_bytes _ _;
-  put_pixels_wide = λ f line sector ps. in_bytes _ _;
+  data_of = λ f line sector out. numbered_with _ _;
+  pixels = λ f line sector out. numbered_with _ _;
+  pixels_wide = λ f line sector out. numbered_with _ _;
+  joined = λ f line channel out. numbered_with _ _;
+  strip = λ f line out r s x y p q. (in_numbers_one r s (strip_is f line out r p.0 ∙ sym (strip_is f line out s q.0)), p.1 ∙ sym q.1);
+  put_data = λ f line sector bytes. numbered_in_bytes _ _;
+  put_pixels = λ f line sector ps. numbered_in_bytes _ _;
+  put_pixels_wide = λ f line sector ps. numbered_in_bytes _ _;
   empty = equation _;
   with_line = λ f report line. equation _;
   together = λ a b. equation _;

@@ -1,12 +1,13 @@
 -- DEMAND 3, a to d in one record: a fresh reader of one format at one setting, a first buffer, and what the caller makes of a buffer between lines.
 -- Assumes nothing.
-use Rattle.std.specs.Prelude.{List, [], ◌++◌, ◌↔◌, ◌≡◌, ℕ, zero, ◌-◌, ◌*◌, ◌≤◌, ◌<◌, length, take}
+use Rattle.std.specs.Prelude.{List, [], ◌++◌, ◌↔◌, ◌≡◌, ℕ, zero, ◌-◌, ◌*◌, ◌≤◌, ◌<◌, length, take, Ok}
 use Rattle.bits.specs.Bits.{bits_of, in_arow}
 use Rattle.reader_bits.specs.Lines.{lines, recorded}
 use Rattle.reader_record.specs.Records.{fresh_state}
 use Rattle.reader_record.specs.declared.State.{State}
-use Rattle.reader_line.specs.declared.Answer.TheVariants.{More, Line}
-use Rattle.reader.specs.Read.{read_answer, read_left, refusal_of, taken_by}
+use Rattle.reader_line.specs.declared.Reading.TheVariants.{More, Line}
+use Rattle.reader.specs.Read.{read_answer, read_left, taken_by}
+use Rattle.refusals.specs.Refusals.{answer_number}
 use Rattle.cuts.specs.Driven.{lent_for, Driven, taken_in, Moment, Standing, bits_read}
 use Rattle.demands.specs.OneLine.{OneLine}
 
@@ -19,7 +20,7 @@ pub record Demand3 (f setting : ℕ) (lend : ℕ → List ℕ → List ℕ) (fir
   pub a_bits : {k : ℕ} {s : State} {buf bytes : List ℕ} {ls : List (List ℕ)} → Moment f setting lend first k s buf bytes ls → ls ≡ lines setting (bits_read s bytes)
   -- .. and a line is handed out right at its last bit: of the bits read without that one, it is no line yet
   pub a_last_bit : {k : ℕ} {s : State} {buf bytes : List ℕ} {ls : List (List ℕ)} → Moment f setting lend first k s buf bytes ls
-      → (p : List ℕ) (t : ℕ) (s' : State) → read_answer f setting s p (lent_for lend k s buf) ≡ Line t s'
+      → (p : List ℕ) (t : ℕ) (s' : State) → read_answer f setting s p (lent_for lend k s buf) ≡ Ok (Line t s')
       → lines setting (take (8 * length (bytes ++ take t p) - s'.unread_count - 1) (bits_of (bytes ++ take t p))) ≡ ls
   -- b. While a line stands whole in the buffer, each pixel joined from it is four times the upper part plus the lower part of that one
   -- line, the last of the bytes taken so far
@@ -32,5 +33,5 @@ pub record Demand3 (f setting : ℕ) (lend : ℕ → List ℕ → List ℕ) (fir
   pub d : (ps ls : List (List ℕ)) (run : Driven f setting lend 0 fresh_state first ps ls) → taken_in run ≡ length (in_arow ps)
   -- .. a call, from any record, no more than it is offered, at least one byte of a piece that has any, and nothing of an empty one
   pub d_most : (s : State) (p buf : List ℕ) → taken_by (read_answer f setting s p buf) ≤ length p
-  pub d_one : (s : State) (p buf : List ℕ) → refusal_of (read_answer f setting s p buf) ≡ 0 → zero < length p → 1 ≤ taken_by (read_answer f setting s p buf)
-  pub d_none : (s : State) (buf : List ℕ) → refusal_of (read_answer f setting s [] buf) ≡ 0 → (read_answer f setting s [] buf ≡ More 0 s) × (read_left f setting s [] buf ≡ buf)
+  pub d_one : (s : State) (p buf : List ℕ) → answer_number (read_answer f setting s p buf) ≡ 0 → zero < length p → 1 ≤ taken_by (read_answer f setting s p buf)
+  pub d_none : (s : State) (buf : List ℕ) → answer_number (read_answer f setting s [] buf) ≡ 0 → (read_answer f setting s [] buf ≡ Ok (More 0 s)) × (read_left f setting s [] buf ≡ buf)

@@ -1,15 +1,13 @@
 -- The edges that document 01 marks P, as one list, each over the rules themselves; P3 to P5 of the formats whose check starts from
 -- 0. What format 3 says of their sectors stands in `specs/Ones`. Assumes nothing.
-use Rattle.std.specs.Prelude.{true, false, List, [], ◌∷◌, ◌++◌, ◌≡◌, ℕ, ◌+◌, take, replicate}
+use Rattle.std.specs.Prelude.{true, false, List, [], ◌∷◌, ◌++◌, ◌≡◌, ℕ, ◌+◌, take, replicate, Ok}
+use Rattle.refusals.specs.Refusals.{refuses}
 use Rattle.bits.specs.Bits.{bits_of, fields_of, stretch}
 use Rattle.calibration.specs.Tables.{temperatures, level_place}
 use Rattle.crc_step.specs.Remainder.{check_word_of}
 use Rattle.numbers.specs.Integers.{read_integer_answer}
 use Rattle.numbers.specs.Decimals.{read_bcd_answer}
 use Rattle.numbers.specs.Reals.{read_real_answer}
-use Rattle.numbers.specs.declared.Integer.TheVariants as integer
-use Rattle.numbers.specs.declared.Bcd.TheVariants as bcd
-use Rattle.numbers.specs.declared.Real.TheVariants as real
 use Rattle.scramble.specs.Register.{scrambling_bits}
 use Rattle.scramble.specs.Sync.{fifteen_ones}
 use Rattle.wire.specs.Parts.{information_of}
@@ -40,13 +38,13 @@ pub record Edges : Type 0 where
   -- upper 1, lower 0: 4
   pub P7 : joined_of (1 ∷ []) (0 ∷ []) ≡ 4 ∷ []
   -- 00 00 07 B5 as R*4.2 is 1973 with 2 places
-  pub P8 : read_real_answer 4 2 (0x00 ∷ 0x00 ∷ 0x07 ∷ 0xb5 ∷ []) ≡ real.Is (record { negative = false; magnitude = 1973; places = 2 })
+  pub P8 : read_real_answer 4 2 (0x00 ∷ 0x00 ∷ 0x07 ∷ 0xb5 ∷ []) ≡ Ok (record { negative = false; magnitude = 1973; places = 2 })
   -- 80 C8 10 42 as R*4.5 is minus 13111362 with 5 places
-  pub P9 : read_real_answer 4 5 (0x80 ∷ 0xc8 ∷ 0x10 ∷ 0x42 ∷ []) ≡ real.Is (record { negative = true; magnitude = 13111362; places = 5 })
+  pub P9 : read_real_answer 4 5 (0x80 ∷ 0xc8 ∷ 0x10 ∷ 0x42 ∷ []) ≡ Ok (record { negative = true; magnitude = 13111362; places = 5 })
   -- 2D 9C as I*2 is 11676
-  pub P10 : read_integer_answer 2 (0x2d ∷ 0x9c ∷ []) ≡ integer.Is 11676
+  pub P10 : read_integer_answer 2 (0x2d ∷ 0x9c ∷ []) ≡ Ok 11676
   -- 97 65 as BCD is 9765; 9A 65 is refusal 7
-  pub P11 : read_bcd_answer 2 (0x97 ∷ 0x65 ∷ []) ≡ bcd.Is 9765
-  pub P11Refused : read_bcd_answer 2 (0x9a ∷ 0x65 ∷ []) ≡ bcd.Refused 7
+  pub P11 : read_bcd_answer 2 (0x97 ∷ 0x65 ∷ []) ≡ Ok 9765
+  pub P11Refused : read_bcd_answer 2 (0x9a ∷ 0x65 ∷ []) ≡ refuses 7
   -- IR1 level 1,023 is at bytes 5373-5376
   pub P12 : (level_place temperatures 1 1023 ≡ 5373) × (level_place temperatures 1 1023 + 3 ≡ 5376)

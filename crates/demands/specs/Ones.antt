@@ -1,12 +1,13 @@
 -- Format 3, whose check starts from ones: what it says of the sectors of P3 to P5, that it is format 1 in all else, that demands 2 and
 -- 3 cover it, and what comes of one card's recording when it is read in a format of the other. Assumes nothing.
-use Rattle.std.specs.Prelude.{cond, List, [], ◌∷◌, ◌++◌, map, ◌≡◌, ℕ, ◌+◌, ◌≤◌, ◌<◌, eqb, length, get_or, take, replicate}
+use Rattle.std.specs.Prelude.{cond, List, [], ◌∷◌, ◌++◌, map, ◌≡◌, ℕ, ◌+◌, ◌≤◌, ◌<◌, eqb, length, get_or, take, replicate, Result, Ok}
 use Rattle.bits.specs.Bits.{digits, bits_of, stretch, in_arow, Below}
 use Rattle.division.specs.Division.{IsRemainder}
 use Rattle.crc_step.specs.Remainder.{remainder_of, inverted}
 use Rattle.formats.specs.Formats.{svissr, hirid, svissr_ones, format_of, check_start, line_bytes}
-use Rattle.formats.specs.declared.FormatAnswer.{FormatAnswer}
-use Rattle.formats.specs.declared.FormatAnswer.TheVariants.{Is, Refused}
+use Rattle.formats.specs.declared.Format.{Format}
+use Rattle.refusals.specs.declared.Refusal.{Refusal}
+use Rattle.refusals.specs.Refusals.{refuses}
 use Rattle.sector_table.specs.Layout.{layout_of, data_at}
 use Rattle.sector_check.specs.Sector.{covered_of, answer_of}
 use Rattle.sectors.specs.Calls.{accepted_answer, answers_answer, filler_answer}
@@ -31,14 +32,14 @@ use Rattle.demands.specs.Demand3.{Demand3}
 use Rattle.demands.specs.RoundTrip.{PlainLines, recording_of, Recording, ComeBack}
 
 -- the format of a number as it was, with two formats; no call is defined by it
-abbrev pub earlier_format_of : ℕ → FormatAnswer
-earlier_format_of n = cond (eqb n 1) (Is svissr) (cond (eqb n 2) (Is hirid) (Refused 1))
+abbrev pub earlier_format_of : ℕ → Result Format Refusal
+earlier_format_of n = cond (eqb n 1) (Ok svissr) (cond (eqb n 2) (Ok hirid) (refuses 1))
 
 -- FORMAT 3 BESIDE P3 TO P5
 pub record Ones : Type 0 where
   -- formats 1 and 2 are as they were, and so is every other number's refusal; 3 was refused
   pub as_before : (n : ℕ) → (n ≡ 3 → ⊥) → format_of n ≡ earlier_format_of n
-  pub was_refused : earlier_format_of 3 ≡ Refused 1
+  pub was_refused : earlier_format_of 3 ≡ refuses 1
   -- formats 1 and 2 keep zero, format 3 has sixteen ones
   pub start_1 : check_start 1 ≡ 0
   pub start_2 : check_start 2 ≡ 0
@@ -80,7 +81,7 @@ pub record AsFormat1 : Type 0 where
 
 -- DEMANDS 2 AND 3 IN FORMAT 3: instances of what is shown of every format that a number names
 pub record Covered : Type 0 where
-  pub named : format_of 3 ≡ Is svissr_ones
+  pub named : format_of 3 ≡ Ok svissr_ones
   -- demand 3, a to d, at every setting and with any full-size buffers
   pub demand_3 : (setting : ℕ) → setting ≤ largest_setting → (lend : ℕ → List ℕ → List ℕ) → ((k : ℕ) (buf : List ℕ) → 44356 ≤ length buf → 44356 ≤ length (lend k buf))
       → (first : List ℕ) → 44356 ≤ length first → Demand3 3 setting lend first
@@ -99,4 +100,4 @@ pub record OtherCard (f g : ℕ) (ls out : List (List ℕ)) : Type 0 where
   pub same : out ≡ map line_in ls
   pub five : (i sector : ℕ) (w : Put) (buf : List ℕ) → Holds f sector w (get_or ls i []) → line_bytes ≤ length buf → line_in buf ≡ get_or out i [] → accepted_answer g buf sector ≡ 5
   pub twelve : (i : ℕ) (w : ℕ → Put) (buf : List ℕ) → ((sector : ℕ) → 1 ≤ sector → sector ≤ 12 → Holds f sector (w sector) (get_or ls i [])) → line_bytes ≤ length buf → line_in buf ≡ get_or out i []
-      → answers_answer g buf ≡ record { refused = 0; answers = replicate 12 5 }
+      → answers_answer g buf ≡ Ok (replicate 12 5)

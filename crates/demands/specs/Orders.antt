@@ -2,7 +2,7 @@
 -- what the call tests, one test after the other with its number; that these numbers stand in the table's order is computed
 -- (`InOrder`, over the one list `order` of the crate `refusals`). Assumes nothing.
 use Rattle.std.specs.Prelude.{ℕ, ◌+◌, ◌-◌, ◌*◌, ◌/◌, ◌^◌, Bool, false, not, ◌&&◌, ◌||◌, List, [], ◌∷◌, ◌++◌, eqb, leb, ltb, length, take, drop}
-use Rattle.refusals.specs.Refusals.{outside}
+use Rattle.refusals.specs.Refusals.{outside, answer_number}
 use Rattle.refusals.specs.Order.{Test, InOrder}
 use Rattle.formats.specs.Formats.{unknown, format_refusal, named_by, check_start, line_bytes}
 use Rattle.bits.specs.Bits.{bits_of, stretch, same, in_base}
@@ -168,7 +168,7 @@ pub record Orders : Type 0 where
       → Gives (with_line_refusal f r given) (format_test f ∷ report_test r ∷ full_test r.lines 1 ∷ (2, ltb given line_bytes) ∷ [])
   -- of the first, and then of the second
   pub together : (a b : Report) → Gives (together_refusal a b) (report_test a ∷ report_test b ∷ full_test a.lines b.lines ∷ [])
-  pub fresh_desk : (count : ℕ) → Gives (fresh_answer count).refused ((19, outside 2 8 count) ∷ [])
+  pub fresh_desk : (count : ℕ) → Gives (answer_number (fresh_answer count)) ((19, outside 2 8 count) ∷ [])
   pub take : (d : Desk) (area : ℕ) → Gives (take_refusal d area) (take_tests d area)
   pub publish : (d : Desk) (area i n : ℕ) → Gives (publish_refusal d area i n) (slot_tests d area i (filling_as n (slot_of d i)))
   -- release and `seen`

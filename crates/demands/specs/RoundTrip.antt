@@ -1,12 +1,11 @@
 -- Demand 2's round trip, in definitions: plain lines, what the writer makes of a run of them, and what comes back. Assumes nothing.
-use Rattle.std.specs.Prelude.{List, [], ◌∷◌, ◌++◌, map, ◌≡◌, ℕ, ◌≤◌, length, get_or, take}
+use Rattle.std.specs.Prelude.{List, [], ◌∷◌, ◌++◌, map, ◌≡◌, ℕ, ◌≤◌, length, get_or, take, Ok}
 use Rattle.bits.specs.Bits.{Below}
 use Rattle.cuts.specs.Driven.{line_in}
 use Rattle.sector_rounds.specs.Puts.{Put, Holds, ComesBack}
 use Rattle.formats.specs.Formats.{line_bytes}
 use Rattle.formats.specs.declared.Format.{Format}
 use Rattle.writer.specs.Wire.{wire_bytes, write_line_answer, write_line_left}
-use Rattle.writer.specs.declared.Written.TheVariants as written
 
 -- a plain line: 44,356 bytes
 pub record PlainLine (line : List ℕ) : Type 0 where
@@ -26,7 +25,7 @@ recording_of f (l ∷ ls) = wire_bytes f l ++ recording_of f ls
 -- behind the other. A line stands in the first 44,356 bytes of its buffer, which may be longer
 pub data Recording (n : ℕ) : List (List ℕ) → List ℕ → Type 0 where
   none : Recording n [] []
-  next : {ls : List (List ℕ)} {bytes : List ℕ} {count : ℕ} (line out : List ℕ) → Below 256 line → write_line_answer n line out ≡ written.Put count → Recording n ls bytes
+  next : {ls : List (List ℕ)} {bytes : List ℕ} {count : ℕ} (line out : List ℕ) → Below 256 line → write_line_answer n line out ≡ Ok count → Recording n ls bytes
       → Recording n (line ∷ ls) (take count (write_line_left n line out) ++ bytes)
 
 -- WHAT COMES BACK of a run of lines: the same lines, bit for bit; and what a sector of the i-th line held comes back from every buffer in

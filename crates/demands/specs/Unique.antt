@@ -1,6 +1,8 @@
 -- ANY TWO RESULTS THAT A CALL'S CONTRACT ALLOWS ARE THE SAME, the answer and every lent byte: one list, a row for every public call, over
 -- its contract. What is lent and not written cannot change, and has no place here. Assumes nothing.
-use Rattle.std.specs.Prelude.{Bool, List, ◌≡◌, ℕ}
+use Rattle.std.specs.Prelude.{Bool, List, ◌≡◌, ℕ, Result}
+use Rattle.refusals.specs.declared.Refusal.{Refusal}
+use Rattle.refusals.specs.Refusals.{number_of, answer_number}
 use Rattle.bits.specs.Bits.{Below}
 use Rattle.formats.specs.Formats.{svissr, hirid, svissr_ones, FormatOk}
 use Rattle.formats.specs.declared.Format.{Format}
@@ -8,15 +10,12 @@ use Rattle.scramble.specs.Step.{StepOk, register_left}
 use Rattle.scramble.specs.declared.StepTaken.{StepTaken}
 use Rattle.reader_record.specs.Records.{fresh_state}
 use Rattle.reader_record.specs.declared.State.{State}
-use Rattle.sectors.specs.Calls.{accepted_answer, answers_answer, FillerOk}
-use Rattle.sectors.specs.declared.check.Twelve.{Twelve}
+use Rattle.sectors.specs.Calls.{accepted_answer, AnswersOk, FillerOk}
 use Rattle.report_record.specs.declared.Report.{Report}
 use Rattle.report_record.specs.Report.{empty_report}
-use Rattle.report.specs.declared.Reported.{Reported}
 use Rattle.report.specs.Calls.{with_line_answer, together_answer}
 use Rattle.desk_record.specs.declared.Desk.{Desk}
 use Rattle.desk.specs.declared.Taken.{Taken}
-use Rattle.desk.specs.declared.Changed.{Changed}
 use Rattle.desk.specs.declared.Part.{Part}
 use Rattle.desk.specs.Calls.{fresh_answer, take_answer, publish_answer, release_answer, seen_answer}
 use Rattle.numbers.specs.Integers.{ReadIntegerOk}
@@ -47,6 +46,9 @@ abbrev pub OneInBytes : {A : Type 0} → (A → List ℕ → Type 0) → Type 0
 OneInBytes {A} ok = (r s : A) (x y : List ℕ) → Below 256 x → Below 256 y → ok r x → ok s y → (r ≡ s) × (x ≡ y)
 
 pub record Unique : Type 0 where
+  -- the number of a refusal, and that of an answer
+  pub number : (e : Refusal) → One (λ (r : ℕ). r ≡ number_of e)
+  pub number_in : (a : Result (Unit {0}) Refusal) → One (λ (r : ℕ). r ≡ answer_number a)
   -- formats, register, SYNC
   pub format_1 : One (λ (r : Format). r ≡ svissr)
   pub format_2 : One (λ (r : Format). r ≡ hirid)
@@ -60,8 +62,8 @@ pub record Unique : Type 0 where
   pub read : (f k : ℕ) (s : State) (piece line : List ℕ) → OneWith (Read f k s piece line)
   pub write_line : (f : ℕ) (line out : List ℕ) → OneWith (WriteLine f line out)
   -- one plain line
-  pub accepted : (f : ℕ) (line : List ℕ) (sector : ℕ) → One (λ (r : ℕ). r ≡ accepted_answer f line sector)
-  pub answers : (f : ℕ) (line : List ℕ) → One (λ (r : Twelve). r ≡ answers_answer f line)
+  pub accepted : (f : ℕ) (line : List ℕ) (sector : ℕ) → One (λ (r : Result (Unit {0}) Refusal). answer_number r ≡ accepted_answer f line sector)
+  pub answers : (f : ℕ) (line : List ℕ) → One (AnswersOk f line)
   pub filler : (f : ℕ) (line : List ℕ) (sector : ℕ) → One (FillerOk f line sector)
   pub data_of : (f : ℕ) (line : List ℕ) (sector : ℕ) (out : List ℕ) → OneWith (Data f line sector out)
   pub pixels : (f : ℕ) (line : List ℕ) (sector : ℕ) (out : List ℕ) → OneWith (Pixels 2 11 f line sector out)
@@ -73,14 +75,14 @@ pub record Unique : Type 0 where
   pub put_pixels_wide : (f : ℕ) (line : List ℕ) (sector : ℕ) (ps : List ℕ) → OneInBytes (PutPixels 12 12 f line sector ps)
   -- the pass report
   pub empty : One (λ (r : Report). r ≡ empty_report)
-  pub with_line : (f : ℕ) (report : Report) (line : List ℕ) → One (λ (r : Reported). r ≡ with_line_answer f report line)
-  pub together : (a b : Report) → One (λ (r : Reported). r ≡ together_answer a b)
+  pub with_line : (f : ℕ) (report : Report) (line : List ℕ) → One (λ (r : Result Report Refusal). r ≡ with_line_answer f report line)
+  pub together : (a b : Report) → One (λ (r : Result Report Refusal). r ≡ together_answer a b)
   -- the line desk
-  pub fresh_desk : (count : ℕ) → One (λ (r : Changed). r ≡ fresh_answer count)
-  pub take : (d : Desk) (area : ℕ) → One (λ (r : Taken). r ≡ take_answer d area)
-  pub publish : (d : Desk) (area i n : ℕ) → One (λ (r : Changed). r ≡ publish_answer d area i n)
-  pub release : (d : Desk) (area c i n : ℕ) → One (λ (r : Changed). r ≡ release_answer d area c i n)
-  pub seen : (d : Desk) (area c i n : ℕ) → One (λ (r : Part). r ≡ seen_answer d area c i n)
+  pub fresh_desk : (count : ℕ) → One (λ (r : Result Desk Refusal). r ≡ fresh_answer count)
+  pub take : (d : Desk) (area : ℕ) → One (λ (r : Result Taken Refusal). r ≡ take_answer d area)
+  pub publish : (d : Desk) (area i n : ℕ) → One (λ (r : Result Desk Refusal). r ≡ publish_answer d area i n)
+  pub release : (d : Desk) (area c i n : ℕ) → One (λ (r : Result Desk Refusal). r ≡ release_answer d area c i n)
+  pub seen : (d : Desk) (area c i n : ℕ) → One (λ (r : Result Part Refusal). r ≡ seen_answer d area c i n)
   -- numbers
   pub read_integer : (n : ℕ) (bytes : List ℕ) → One (ReadIntegerOk n bytes)
   pub read_bcd : (n : ℕ) (bytes : List ℕ) → One (ReadBcdOk n bytes)

@@ -3,6 +3,8 @@
 // both hold it then; each reads the part that `seen` gives and releases its own hold, by slot and serial. The slot is free again once
 // neither holds it.
 //
+// A desk is copied in, and a call gives the desk after it. A refused call gives no desk, and the caller's own stands as it was.
+//
 // No call is lent the area, only told its length: the reader alone writes there.
 //
 // The contracts cite `specs/Calls.antt`, the refusals and the answer of each call. No public function has a `requires`.
@@ -11,146 +13,108 @@
 ghost use Rattle.std.specs.Prelude.{◌≡◌};
 ghost use Rattle.desk.specs.Calls.{fresh_answer, take_answer, publish_answer, release_answer, seen_answer};
 
-use desk_record::{Desk, Slot, Use, held_or, let_go};
+use desk_record::{Desk, Slot, Use, let_go};
 use desk_refusals::{count_refusal, publish_refusal, release_refusal, take_refusal};
 use desk_whole::{lowest, with_slot};
 use formats::Format;
+use refusals::Refusal;
 
-// The consumers by number; any other holds nothing.
+// The consumers by number; any other holds nothing. Numbers, and no enum: a caller may hand in any, and is then refused with 17.
 pub const PREVIEW: u8 = 1;
 
 pub const CAPTURE: u8 = 2;
 
-// The answer of `take`: refused with a number, or 0; the slot taken and its serial number; the desk after the call, as it was where
-// the call is refused.
-#[derive(Clone, Copy)]
+// What a `take` gives: the slot taken, its serial number, and the desk after the call.
+#[derive(Clone, Copy, Debug, PartialEq, Eq)]
 pub struct Taken {
-    pub refused: u8,
     pub slot: usize,
     pub serial: u32,
     pub desk: Desk,
 }
 
-// The answer of a call that changes the desk.
-#[derive(Clone, Copy)]
-pub struct Changed {
-    pub refused: u8,
-    pub desk: Desk,
-}
-
-// The answer of `seen`: the part of the area that a holder may read, from its first byte to before its last.
-#[derive(Clone, Copy)]
+// The part of the area that a holder may read, from its first byte to before its last.
+#[derive(Clone, Copy, Debug, PartialEq, Eq)]
 pub struct Part {
-    pub refused: u8,
     pub from: usize,
     pub to: usize,
 }
 
 // An empty desk of so many slots; refused with 19 where they are not 2 to 8.
-pub fn fresh(count: usize) -> Changed
+#[tactic(auto, unfolding(crate::specs::Calls::fresh_answer, refusals::specs::Refusals::answered))]
+pub fn fresh(count: usize) -> Result<Desk, Refusal>
     ensures { result ≡ fresh_answer count }
 {
-    let s = Slot { used: Use::Free };
-    let slots = [s; 8];
-    let d = Desk {
-        count: count,
+    let empty = Desk {
+        count,
         last: 0,
-        slots: slots,
+        slots: [Slot { used: Use::Free }; 8],
     };
-    Changed {
-        refused: count_refusal(d),
-        desk: d,
-    }
+    count_refusal(empty)?;
+    Ok(empty)
 }
 
 // The feeder takes the lowest free slot and the next serial number, with the length of the area. Refused with 19, 12, 2, 18
 // and 16, in this order.
-pub fn take(d: Desk, area: usize) -> Taken
+#[tactic(auto, using(desk_refusals::proofs::Served::take_small, desk_refusals::proofs::Served::take_below, desk_refusals::proofs::Served::take_last), unfolding(crate::specs::Calls::take_answer, refusals::specs::Refusals::answered))]
+pub fn take(d: Desk, area: usize) -> Result<Taken, Refusal>
     ensures { result ≡ take_answer d area }
 {
-    let r = take_refusal(d, area);
-    if r != 0 {
-        return Taken {
-            refused: r,
-            slot: 0,
-            serial: 0,
-            desk: d,
-        };
-    }
-    let i = lowest(d);
-    let n = d.last + 1;
-    let e = with_slot(d, i, Use::Filling(n));
-    let slots = e.slots;
-    let after = Desk {
-        count: d.count,
-        last: n,
-        slots: slots,
-    };
-    Taken {
-        refused: 0,
-        slot: i,
-        serial: n,
-        desk: after,
-    }
+    take_refusal(d, area)?;
+    let slot = lowest(d);
+    let serial = d.last + 1;
+    let filled = with_slot(d, slot, Use::Filling(serial));
+    Ok(Taken {
+        slot,
+        serial,
+        desk: Desk {
+            last: serial,
+            ..filled
+        },
+    })
 }
 
 // The feeder publishes the line in a slot by its serial number: preview and capture both hold it. Refused with 19, 12, 2
 // and 17, in this order.
-pub fn publish(d: Desk, area: usize, slot: usize, serial: u32) -> Changed
+#[tactic(auto, using(desk_refusals::proofs::Served::publish_below), unfolding(crate::specs::Calls::publish_answer, refusals::specs::Refusals::answered))]
+pub fn publish(d: Desk, area: usize, slot: usize, serial: u32) -> Result<Desk, Refusal>
     ensures { result ≡ publish_answer d area slot serial }
 {
-    let r = publish_refusal(d, area, slot, serial);
-    if r != 0 {
-        return Changed {
-            refused: r,
-            desk: d,
-        };
-    }
-    let u = held_or(serial, true, true);
-    let e = with_slot(d, slot, u);
-    Changed {
-        refused: 0,
-        desk: e,
-    }
+    publish_refusal(d, area, slot, serial)?;
+    let held = Use::Held {
+        serial,
+        preview: true,
+        capture: true,
+    };
+    Ok(with_slot(d, slot, held))
 }
 
 // A consumer, 1 preview and 2 capture, releases its own hold of a slot by the serial number. Refused with 19, 12, 2 and 17,
 // in this order; any other consumer holds nothing.
-pub fn release(d: Desk, area: usize, consumer: u8, slot: usize, serial: u32) -> Changed
+#[tactic(auto, using(desk_refusals::proofs::Served::release_below), unfolding(crate::specs::Calls::release_answer, refusals::specs::Refusals::answered))]
+pub fn release(
+    d: Desk,
+    area: usize,
+    consumer: u8,
+    slot: usize,
+    serial: u32,
+) -> Result<Desk, Refusal>
     ensures { result ≡ release_answer d area consumer slot serial }
 {
-    let r = release_refusal(d, area, consumer, slot, serial);
-    if r != 0 {
-        return Changed {
-            refused: r,
-            desk: d,
-        };
-    }
-    let u = let_go(d.slots[slot], consumer);
-    let e = with_slot(d, slot, u);
-    Changed {
-        refused: 0,
-        desk: e,
-    }
+    release_refusal(d, area, consumer, slot, serial)?;
+    let left = let_go(d.slots[slot], consumer);
+    Ok(with_slot(d, slot, left))
 }
 
 // The part of the area that a consumer may read: that of a slot which it holds under the serial number. Refused as `release`
 // is; nothing changes.
-pub fn seen(d: Desk, area: usize, consumer: u8, slot: usize, serial: u32) -> Part
+#[tactic(auto, using(desk_refusals::proofs::Served::release_below), unfolding(crate::specs::Calls::seen_answer, refusals::specs::Refusals::answered))]
+pub fn seen(d: Desk, area: usize, consumer: u8, slot: usize, serial: u32) -> Result<Part, Refusal>
     ensures { result ≡ seen_answer d area consumer slot serial }
 {
-    let r = release_refusal(d, area, consumer, slot, serial);
-    if r != 0 {
-        return Part {
-            refused: r,
-            from: 0,
-            to: 0,
-        };
-    }
+    release_refusal(d, area, consumer, slot, serial)?;
     let from = slot * Format::LINE_BYTES;
-    Part {
-        refused: 0,
-        from: from,
+    Ok(Part {
+        from,
         to: from + Format::LINE_BYTES,
-    }
+    })
 }

@@ -19,7 +19,7 @@ pub const LAST_SERIAL: u32 = 4294967295;
 
 // What a slot is used for, and it is one of three: nothing; a line being filled under a serial number; or a line held under one, by
 // preview, by capture or by both. So no slot is in two states.
-#[derive(Clone, Copy)]
+#[derive(Clone, Copy, Debug, PartialEq, Eq)]
 pub enum Use {
     Free,
     Filling(u32),
@@ -31,14 +31,14 @@ pub enum Use {
 }
 
 // One slot.
-#[derive(Clone, Copy)]
+#[derive(Clone, Copy, Debug, PartialEq, Eq)]
 pub struct Slot {
     pub used: Use,
 }
 
 // The desk: the number of slots, 2 to 8; the last serial number given, 0 before the first; the slots, of which those past the count
 // do not exist: no call looks at them, and each gives them back as they stand.
-#[derive(Clone, Copy)]
+#[derive(Clone, Copy, Debug, PartialEq, Eq)]
 pub struct Desk {
     pub count: usize,
     pub last: u32,
@@ -49,31 +49,17 @@ pub struct Desk {
 pub fn free(s: Slot) -> bool
     ensures { result ≡ is_free s.used }
 {
-    let u = s.used;
-    match u {
-        Use::Free => true,
-        Use::Filling(_) => false,
-        Use::Held {
-            serial: _,
-            preview: _,
-            capture: _,
-        } => false,
-    }
+    matches!(s.used, Use::Free)
 }
 
 // Inner. The serial number of a busy slot; 0 for a free one.
 pub fn serial(s: Slot) -> u32
     ensures { result ≡ serial_of s.used }
 {
-    let u = s.used;
-    match u {
+    match s.used {
         Use::Free => 0,
         Use::Filling(n) => n,
-        Use::Held {
-            serial,
-            preview: _,
-            capture: _,
-        } => serial,
+        Use::Held { serial, .. } => serial,
     }
 }
 
@@ -81,28 +67,21 @@ pub fn serial(s: Slot) -> u32
 pub fn given(n: u32, last: u32) -> bool
     ensures { result ≡ (ltb 0 n && leb n last) }
 {
-    if 0 < n { n <= last } else { false }
+    0 < n && n <= last
 }
 
 // Inner. Whether a slot by itself is sound: a busy one has a serial number that was given, a held one a holder.
 pub fn sound(s: Slot, last: u32) -> bool
     ensures { result ≡ sound_use last s.used }
 {
-    let u = s.used;
-    match u {
+    match s.used {
         Use::Free => true,
         Use::Filling(n) => given(n, last),
         Use::Held {
             serial,
             preview,
             capture,
-        } => {
-            if given(serial, last) {
-                if preview { true } else { capture }
-            } else {
-                false
-            }
-        }
+        } => given(serial, last) && (preview || capture),
     }
 }
 
@@ -110,15 +89,10 @@ pub fn sound(s: Slot, last: u32) -> bool
 pub fn busy_as(s: Slot, n: u32) -> bool
     ensures { result ≡ busy_as n s.used }
 {
-    let u = s.used;
-    match u {
+    match s.used {
         Use::Free => false,
         Use::Filling(m) => m == n,
-        Use::Held {
-            serial,
-            preview: _,
-            capture: _,
-        } => serial == n,
+        Use::Held { serial, .. } => serial == n,
     }
 }
 
@@ -126,41 +100,24 @@ pub fn busy_as(s: Slot, n: u32) -> bool
 pub fn filling_as(s: Slot, n: u32) -> bool
     ensures { result ≡ filling_as n s.used }
 {
-    let u = s.used;
-    match u {
-        Use::Free => false,
-        Use::Filling(m) => m == n,
-        Use::Held {
-            serial: _,
-            preview: _,
-            capture: _,
-        } => false,
-    }
+    s.used == Use::Filling(n)
 }
 
 // Inner. Whether a slot is held by consumer c, 1 preview and 2 capture, under serial n.
 pub fn held_by(s: Slot, c: u8, n: u32) -> bool
     ensures { result ≡ held_by c n s.used }
 {
-    let u = s.used;
-    match u {
-        Use::Free => false,
-        Use::Filling(_) => false,
+    match s.used {
         Use::Held {
             serial,
             preview,
             capture,
-        } => {
-            if serial == n {
-                if c == 1 {
-                    preview
-                } else {
-                    if c == 2 { capture } else { false }
-                }
-            } else {
-                false
-            }
-        }
+        } if serial == n => match c {
+            1 => preview,
+            2 => capture,
+            _ => false,
+        },
+        _ => false,
     }
 }
 
@@ -168,42 +125,34 @@ pub fn held_by(s: Slot, c: u8, n: u32) -> bool
 pub fn still(held: bool, c: u8, who: u8) -> bool
     ensures { result ≡ (held && not (eqb c who)) }
 {
-    if held { c != who } else { false }
+    held && c != who
 }
 
 // Inner. A line held by those who hold; a free slot where neither does.
 pub fn held_or(n: u32, p: bool, q: bool) -> Use
     ensures { result ≡ held_or n p q }
 {
-    if p {
-        return Use::Held {
+    if p || q {
+        Use::Held {
             serial: n,
-            preview: true,
+            preview: p,
             capture: q,
-        };
+        }
+    } else {
+        Use::Free
     }
-    if q {
-        return Use::Held {
-            serial: n,
-            preview: false,
-            capture: true,
-        };
-    }
-    Use::Free
 }
 
 // Inner. A slot once consumer c has released its hold.
 pub fn let_go(s: Slot, c: u8) -> Use
     ensures { result ≡ let_go c s.used }
 {
-    let u = s.used;
-    match u {
-        Use::Free => Use::Free,
-        Use::Filling(n) => Use::Filling(n),
+    match s.used {
         Use::Held {
             serial,
             preview,
             capture,
         } => held_or(serial, still(preview, c, 1), still(capture, c, 2)),
+        other => other,
     }
 }

@@ -4,133 +4,128 @@
 #![tactic(auto)]
 
 ghost use Rattle.std.specs.Prelude.{◌≡◌, ◌≤◌, leb};
-ghost use Rattle.refusals.specs.Refusals.{when};
+ghost use Rattle.refusals.specs.Refusals.{when, answer_number};
 ghost use Rattle.desk_record.specs.Desks.{lowest_of, last_serial};
 ghost use Rattle.desk_refusals.specs.Asked.{count_refusal, slot_refusal, rest_refusal, none_refusal, take_refusal, publish_refusal, release_refusal};
 
 use desk_record::{Desk, LAST_SERIAL, LEAST_SLOTS, MOST_SLOTS, filling_as, held_by};
 use desk_whole::{lowest, possible};
 use formats::Format;
-use refusals::first;
+use refusals::{Refusal, enough, within};
 
-// Inner. 19 where the count is not 2 to 8; else 0.
-pub fn count_refusal(d: Desk) -> u8
-    ensures { result ≡ count_refusal d }
+// Inner. Refuses, with 19, where the count is not 2 to 8.
+#[tactic(auto, unfolding(crate::specs::Asked::count_refusal))]
+pub fn count_refusal(d: Desk) -> Result<(), Refusal>
+    ensures { answer_number result ≡ count_refusal d }
 {
-    if d.count < LEAST_SLOTS {
-        return refusals::OUT_OF_RANGE;
-    }
-    if d.count > MOST_SLOTS {
-        return refusals::OUT_OF_RANGE;
-    }
-    0
+    within(
+        LEAST_SLOTS as u64,
+        MOST_SLOTS as u64,
+        d.count as u64,
+        Refusal::OutOfRange,
+    )
 }
 
-// Inner. 19 where the count is out of range, or the slot is not below it; else 0.
-pub fn slot_refusal(d: Desk, slot: usize) -> u8
-    ensures { result ≡ slot_refusal d slot }
+// Inner. Refuses, with 19, where the count is out of range, or the slot is not below it.
+#[tactic(auto, using(refusals::proofs::Numbers::refused_first, refusals::proofs::Numbers::passed_first), unfolding(crate::specs::Asked::slot_refusal, refusals::specs::Refusals::when))]
+pub fn slot_refusal(d: Desk, slot: usize) -> Result<(), Refusal>
+    ensures { answer_number result ≡ slot_refusal d slot }
 {
-    let r = count_refusal(d);
-    if r != 0 {
-        return r;
+    count_refusal(d)?;
+    if slot < d.count {
+        Ok(())
+    } else {
+        Err(Refusal::OutOfRange)
     }
-    if slot >= d.count {
-        return refusals::OUT_OF_RANGE;
-    }
-    0
 }
 
-// Inner. 12 where the desk is impossible; 2 where the area is short; else 0.
-pub fn rest_refusal(d: Desk, area: usize) -> u8
+// Inner. Refuses, with 12, where the desk is impossible, then with 2 where the area is short.
+#[tactic(auto, unfolding(crate::specs::Asked::rest_refusal, refusals::specs::Refusals::first, refusals::specs::Refusals::when))]
+pub fn rest_refusal(d: Desk, area: usize) -> Result<(), Refusal>
     requires { d.count ≤ 8 }
-    ensures { result ≡ rest_refusal d area }
+    ensures { answer_number result ≡ rest_refusal d area }
 {
     if !possible(d) {
-        return refusals::STATE;
+        return Err(Refusal::State);
     }
-    if area < d.count * Format::LINE_BYTES {
-        return refusals::SHORT_INPUT;
-    }
-    0
+    enough(area, d.count * Format::LINE_BYTES, Refusal::ShortInput)
 }
 
-// Inner. 18 where serial numbers are used up; else 0.
-fn serial_refusal(last: u32) -> u8
-    ensures { result ≡ when (leb last_serial last) 18 }
+// Inner. Refuses, with 18, where serial numbers are used up.
+#[tactic(auto, unfolding(refusals::specs::Refusals::when))]
+fn serial_refusal(last: u32) -> Result<(), Refusal>
+    ensures { answer_number result ≡ when (leb last_serial last) 18 }
 {
-    if last >= LAST_SERIAL {
-        refusals::NO_SERIAL
+    if last < LAST_SERIAL {
+        Ok(())
     } else {
-        0
+        Err(Refusal::NoSerial)
     }
 }
 
-// Inner. 16 where no slot is free; else 0.
-fn free_refusal(d: Desk) -> u8
+// Inner. Refuses, with 16, where no slot is free.
+#[tactic(auto, unfolding(refusals::specs::Refusals::when))]
+fn free_refusal(d: Desk) -> Result<(), Refusal>
     requires { d.count ≤ 8 }
-    ensures { result ≡ when (leb d.count (lowest_of d)) 16 }
+    ensures { answer_number result ≡ when (leb d.count (lowest_of d)) 16 }
 {
-    let i = lowest(d);
-    if i >= d.count { refusals::NO_SLOT } else { 0 }
+    if lowest(d) < d.count {
+        Ok(())
+    } else {
+        Err(Refusal::NoSlot)
+    }
 }
 
-// Inner. 18 where serial numbers are used up; 16 where they are not and no slot is free; else 0.
-pub fn none_refusal(d: Desk) -> u8
+// Inner. Refuses, with 18, where serial numbers are used up, then with 16 where no slot is free.
+#[tactic(auto, using(refusals::proofs::Numbers::refused_first, refusals::proofs::Numbers::passed_first), unfolding(crate::specs::Asked::none_refusal))]
+pub fn none_refusal(d: Desk) -> Result<(), Refusal>
     requires { d.count ≤ 8 }
-    ensures { result ≡ none_refusal d }
+    ensures { answer_number result ≡ none_refusal d }
 {
-    let used_up = serial_refusal(d.last);
-    let full = free_refusal(d);
-    first(used_up, full)
+    serial_refusal(d.last)?;
+    free_refusal(d)
 }
 
-// Inner. The refusals of `take`, in their order; 0 where none applies.
-pub fn take_refusal(d: Desk, area: usize) -> u8
-    ensures { result ≡ take_refusal d area }
+// Inner. The refusals of `take`, in their order.
+#[tactic(auto, using(refusals::proofs::Numbers::refused_first, refusals::proofs::Numbers::passed_first, crate::proofs::Served::count_small), unfolding(crate::specs::Asked::take_refusal))]
+pub fn take_refusal(d: Desk, area: usize) -> Result<(), Refusal>
+    ensures { answer_number result ≡ take_refusal d area }
 {
-    let r = count_refusal(d);
-    if r != 0 {
-        return r;
-    }
-    let q = rest_refusal(d, area);
-    if q != 0 {
-        return q;
-    }
+    count_refusal(d)?;
+    rest_refusal(d, area)?;
     none_refusal(d)
 }
 
 // Inner. Those of `publish`.
-pub fn publish_refusal(d: Desk, area: usize, slot: usize, serial: u32) -> u8
-    ensures { result ≡ publish_refusal d area slot serial }
+#[tactic(auto, using(refusals::proofs::Numbers::refused_first, refusals::proofs::Numbers::passed_first, crate::proofs::Served::slots_small, crate::proofs::Served::slot_small), unfolding(crate::specs::Asked::publish_refusal, refusals::specs::Refusals::when))]
+pub fn publish_refusal(d: Desk, area: usize, slot: usize, serial: u32) -> Result<(), Refusal>
+    ensures { answer_number result ≡ publish_refusal d area slot serial }
 {
-    let r = slot_refusal(d, slot);
-    if r != 0 {
-        return r;
+    slot_refusal(d, slot)?;
+    rest_refusal(d, area)?;
+    if filling_as(d.slots[slot], serial) {
+        Ok(())
+    } else {
+        Err(Refusal::NoHold)
     }
-    let q = rest_refusal(d, area);
-    if q != 0 {
-        return q;
-    }
-    if !filling_as(d.slots[slot], serial) {
-        return refusals::NO_HOLD;
-    }
-    0
 }
 
 // Inner. Those of `release`.
-pub fn release_refusal(d: Desk, area: usize, consumer: u8, slot: usize, serial: u32) -> u8
-    ensures { result ≡ release_refusal d area consumer slot serial }
+#[tactic(auto, using(refusals::proofs::Numbers::refused_first, refusals::proofs::Numbers::passed_first, crate::proofs::Served::slots_small, crate::proofs::Served::slot_small), unfolding(crate::specs::Asked::release_refusal, refusals::specs::Refusals::when))]
+pub fn release_refusal(
+    d: Desk,
+    area: usize,
+    consumer: u8,
+    slot: usize,
+    serial: u32,
+) -> Result<(), Refusal>
+    ensures { answer_number result ≡ release_refusal d area consumer slot serial }
 {
-    let r = slot_refusal(d, slot);
-    if r != 0 {
-        return r;
+    slot_refusal(d, slot)?;
+    rest_refusal(d, area)?;
+    if held_by(d.slots[slot], consumer, serial) {
+        Ok(())
+    } else {
+        Err(Refusal::NoHold)
     }
-    let q = rest_refusal(d, area);
-    if q != 0 {
-        return q;
-    }
-    if !held_by(d.slots[slot], consumer, serial) {
-        return refusals::NO_HOLD;
-    }
-    0
 }

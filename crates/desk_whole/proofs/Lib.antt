@@ -1,2 +1,2 @@
-pub mod Checks
+pub mod Chains
 pub mod LowestFree

@@ -1,9 +1,8 @@
 -- The lowest free slot, step by step, and what it is. Assumes nothing.
 use mathlib.Core.Bool.{Bool, true, false, cond}
 use mathlib.Core.Path.{◌≡◌, refl}
-use Prim.Native.Nat.{ℕ, zero, suc, ◌+◌, ◌-◌, ◌≤◌, ◌<◌}
+use Prim.Native.Nat.{ℕ, zero, suc, ◌+◌, ◌≤◌, ◌<◌}
 use native.Mathlib.Nat.{not-suc-le-zero}
-use native.Mathlib.Numerals.{add-one}
 use native.Mathlib.Omega.{arith}
 use borrow.Author.Tests.{eqb-true, eqb-false}
 use lib.Dec.{eqb}
@@ -15,17 +14,6 @@ pub lowest_here : (u : ℕ → Use) (k i : ℕ) → zero < k → is_free (u i) �
 unfolding lowest_from
 lowest_here u zero i h e = absurd (not-suc-le-zero h)
 lowest_here u (suc k) i h e = rw e
-
-pub lowest_on : (u : ℕ → Use) (k i : ℕ) → zero < k → is_free (u i) ≡ false → lowest_from u k i ≡ lowest_from u (k - 1) (i + 1)
-unfolding lowest_from
-lowest_on u zero i h e = absurd (not-suc-le-zero h)
-lowest_on u (suc k) i h e =
-    let z : suc k - 1 ≡ k = omega arith in
-    rw (e, z, add-one) refl
-
-pub lowest_none : (u : ℕ → Use) (k i : ℕ) → k ≡ 0 → lowest_from u k i ≡ i
-unfolding lowest_from
-lowest_none u k i e = rw e
 
 -- IT IS FREE where it is one of the slots looked at, AND NONE BELOW IT IS
 pub lowest_free : (u : ℕ → Use) (k i : ℕ) → lowest_from u k i < i + k → is_free (u (lowest_from u k i)) ≡ true

@@ -16,14 +16,7 @@ pub fn lowest(d: Desk) -> usize
     requires { d.count ≤ 8 }
     ensures { result ≡ lowest_of d }
 {
-    let mut i: usize = 0;
-    while i < d.count {
-        if free(d.slots[i]) {
-            return i;
-        }
-        i += 1;
-    }
-    i
+    (0..d.count).find(|&i| free(d.slots[i])).unwrap_or(d.count)
 }
 
 // Inner. Whether some slot of the desk from a slot on is busy with serial n.
@@ -31,14 +24,7 @@ pub fn busy_from(d: Desk, n: u32, from: usize) -> bool
     requires { (d.count ≤ 8) × (from ≤ d.count) }
     ensures { result ≡ busy_from (slot_of d) n (d.count - from) from }
 {
-    let mut i = from;
-    while i < d.count {
-        if busy_as(d.slots[i], n) {
-            return true;
-        }
-        i += 1;
-    }
-    false
+    d.slots[from..d.count].iter().any(|s| busy_as(*s, n))
 }
 
 // Inner. Whether no later slot is busy with the serial of a busy one.
@@ -47,10 +33,7 @@ pub fn alone(d: Desk, i: usize) -> bool
     ensures { result ≡ (is_free (slot_of d i) || not (busy_from (slot_of d) (serial_of (slot_of d i)) (d.count - (i + 1)) (i + 1))) }
 {
     let s = d.slots[i];
-    if free(s) {
-        return true;
-    }
-    !busy_from(d, serial(s), i + 1)
+    free(s) || !busy_from(d, serial(s), i + 1)
 }
 
 // Inner. Whether the desk is possible: refusal 12 is given exactly where it is not.
@@ -58,17 +41,7 @@ pub fn possible(d: Desk) -> bool
     requires { d.count ≤ 8 }
     ensures { result ≡ possible_of d }
 {
-    let mut i: usize = 0;
-    while i < d.count {
-        if !sound(d.slots[i], d.last) {
-            return false;
-        }
-        if !alone(d, i) {
-            return false;
-        }
-        i += 1;
-    }
-    true
+    (0..d.count).all(|i| sound(d.slots[i], d.last) && alone(d, i))
 }
 
 // Inner. The desk with a slot used otherwise.
@@ -78,9 +51,5 @@ pub fn with_slot(d: Desk, i: usize, u: Use) -> Desk
 {
     let mut slots = d.slots;
     slots[i] = Slot { used: u };
-    Desk {
-        count: d.count,
-        last: d.last,
-        slots: slots,
-    }
+    Desk { slots, ..d }
 }

@@ -1,6 +1,6 @@
 -- What is known once sector 1 is not refused: the line stands in its buffer, and what lies from a place on is the rest of
 -- it. Assumes nothing.
-use mathlib.Core.Path.{◌≡◌}
+use mathlib.Core.Path.{◌≡◌, sym}
 use mathlib.Core.List.{List}
 use Prim.Native.Nat.{ℕ, ◌-◌, ◌≤◌}
 use native.Mathlib.Omega.{arith}
@@ -17,10 +17,10 @@ use Rattle.sector_table.proofs.Admitted.{admitted}
 use Rattle.document.specs.Place.{doc_refusal}
 use Rattle.sector_table.specs.Place.{doc_from}
 
-pub doc_long : (f : ℕ) (line : List ℕ) → doc_refusal f line ≡ 0 → line_bytes ≤ length line
+pub doc_long : (f : ℕ) (line : List ℕ) → 0 ≡ doc_refusal f line → line_bytes ≤ length line
 unfolding doc_refusal accepted_answer
 doc_long f line e =
-    (admitted f 1 12 1 (length line) (none_first (line_refusal f 1 12 1 (length line)) (answer_of (check_start f) (layout_of 1) (bits_of line)) e)).long
+    (admitted f 1 12 1 (length line) (none_first (line_refusal f 1 12 1 (length line)) (answer_of (check_start f) (layout_of 1) (bits_of line)) (sym e))).long
 
 -- the slice from a place to the line's end
 pub from_place : (line : List ℕ) (p : ℕ) → take (length line - (p - 1)) (drop (p - 1) line) ≡ doc_from line p

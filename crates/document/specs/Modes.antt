@@ -1,15 +1,12 @@
 -- Scan mode, byte 3, and scanner select, byte 67: the names of the paper, and the byte that stands for each. A byte that
 -- has no name is kept. Assumes nothing.
-use Rattle.std.specs.Prelude.{ℕ, cond, List, ◌≡◌, eqb}
-use Rattle.refusals.specs.Refusals.{answered, kept, Genuine}
+use Rattle.std.specs.Prelude.{ℕ, cond, List, ◌≡◌, eqb, Result, Ok}
+use Rattle.refusals.specs.declared.Refusal.{Refusal}
+use Rattle.refusals.specs.Refusals.{answered, kept, refuses, answer_number, answer_value}
 use Rattle.document.specs.declared.modes.ScanMode.{ScanMode}
 use Rattle.document.specs.declared.modes.ScanMode.TheVariants as mode
-use Rattle.document.specs.declared.modes.Scan.{Scan}
-use Rattle.document.specs.declared.modes.Scan.TheVariants as scan
 use Rattle.document.specs.declared.modes.Mirror.{Mirror}
 use Rattle.document.specs.declared.modes.Mirror.TheVariants as mirror
-use Rattle.document.specs.declared.modes.Scanner.{Scanner}
-use Rattle.document.specs.declared.modes.Scanner.TheVariants as scanner
 use Rattle.document.specs.Place.{doc_refusal}
 use Rattle.sector_table.specs.Place.{doc_byte}
 
@@ -35,33 +32,27 @@ mode_of b =
     (cond (eqb b 0xFF) mode.Single
     (mode.Unnamed b)))
 
--- the paper's number for each answer, and its mode, by name and byte; a refusal has 0 for both
-abbrev pub scan_number : Scan → ℕ
-scan_number (scan.Is m) = 0
-scan_number (scan.Refused k) = k
+-- the mode of an answer, by name and byte; a refusal has 0 for both
+abbrev pub no_mode : ScanMode
+no_mode = mode.Unnamed 0
 
-abbrev pub scanned : Scan → ScanMode
-scanned (scan.Is m) = m
-scanned (scan.Refused k) = mode.Unnamed 0
+abbrev pub scan_name : Result ScanMode Refusal → ℕ
+scan_name r = mode_name (answer_value no_mode r)
 
-abbrev pub scan_name : Scan → ℕ
-scan_name r = mode_name (scanned r)
+abbrev pub scan_byte : Result ScanMode Refusal → ℕ
+scan_byte r = mode_byte (answer_value no_mode r)
 
-abbrev pub scan_byte : Scan → ℕ
-scan_byte r = mode_byte (scanned r)
-
-abbrev pub scan_values : Scan → ℕ × ℕ
+abbrev pub scan_values : Result ScanMode Refusal → ℕ × ℕ
 scan_values r = (scan_name r, scan_byte r)
 
 -- THE CONTRACT of `scan_mode`, refused with 1, 2, 5, 6: the number, and the name of byte 3 with that byte
-abbrev pub ScanModeOk : ℕ → List ℕ → Scan → Type 0
+abbrev pub ScanModeOk : ℕ → List ℕ → Result ScanMode Refusal → Type 0
 ScanModeOk f line r =
-    (scan_number r ≡ doc_refusal f line)
+    (answer_number r ≡ doc_refusal f line)
     × (scan_values r ≡ kept (doc_refusal f line) (0, 0) (mode_name (mode_of (doc_byte line 3)), doc_byte line 3))
-    × Genuine scan.Refused r
 
-unfoldable pub scan_mode_answer : ℕ → List ℕ → Scan
-scan_mode_answer f line = answered scan.Refused (doc_refusal f line) (scan.Is (mode_of (doc_byte line 3)))
+unfoldable pub scan_mode_answer : ℕ → List ℕ → Result ScanMode Refusal
+scan_mode_answer f line = answered refuses (doc_refusal f line) (Ok (mode_of (doc_byte line 3)))
 
 -- ---- scanner select
 
@@ -88,30 +79,24 @@ mirror_of b =
     (cond (eqb b 0x0F) mirror.TwoB
     (mirror.Unnamed b))))
 
--- the paper's number for each answer, and its mirror, by name and byte; a refusal has 0 for both
-abbrev pub scanner_number : Scanner → ℕ
-scanner_number (scanner.Is m) = 0
-scanner_number (scanner.Refused k) = k
+-- the mirror of an answer, by name and byte; a refusal has 0 for both
+abbrev pub no_mirror : Mirror
+no_mirror = mirror.Unnamed 0
 
-abbrev pub selected : Scanner → Mirror
-selected (scanner.Is m) = m
-selected (scanner.Refused k) = mirror.Unnamed 0
+abbrev pub scanner_name : Result Mirror Refusal → ℕ
+scanner_name r = mirror_name (answer_value no_mirror r)
 
-abbrev pub scanner_name : Scanner → ℕ
-scanner_name r = mirror_name (selected r)
+abbrev pub scanner_byte : Result Mirror Refusal → ℕ
+scanner_byte r = mirror_byte (answer_value no_mirror r)
 
-abbrev pub scanner_byte : Scanner → ℕ
-scanner_byte r = mirror_byte (selected r)
-
-abbrev pub scanner_values : Scanner → ℕ × ℕ
+abbrev pub scanner_values : Result Mirror Refusal → ℕ × ℕ
 scanner_values r = (scanner_name r, scanner_byte r)
 
 -- THE CONTRACT of `scanner_select`, refused with 1, 2, 5, 6: the number, and the name of byte 67 with that byte
-abbrev pub ScannerSelectOk : ℕ → List ℕ → Scanner → Type 0
+abbrev pub ScannerSelectOk : ℕ → List ℕ → Result Mirror Refusal → Type 0
 ScannerSelectOk f line r =
-    (scanner_number r ≡ doc_refusal f line)
+    (answer_number r ≡ doc_refusal f line)
     × (scanner_values r ≡ kept (doc_refusal f line) (0, 0) (mirror_name (mirror_of (doc_byte line 67)), doc_byte line 67))
-    × Genuine scanner.Refused r
 
-unfoldable pub scanner_select_answer : ℕ → List ℕ → Scanner
-scanner_select_answer f line = answered scanner.Refused (doc_refusal f line) (scanner.Is (mirror_of (doc_byte line 67)))
+unfoldable pub scanner_select_answer : ℕ → List ℕ → Result Mirror Refusal
+scanner_select_answer f line = answered refuses (doc_refusal f line) (Ok (mirror_of (doc_byte line 67)))

@@ -1,26 +1,17 @@
 -- The sub-commutation bytes: 193 and 195 are 0, 194 is the segment 0 to 24, 196 the repeat 0 to 7. Assumes nothing.
-use Rattle.std.specs.Prelude.{ℕ, not, ◌||◌, List, ◌≡◌, eqb, ltb}
-use Rattle.refusals.specs.Refusals.{first, when, answered, kept, Genuine}
+use Rattle.std.specs.Prelude.{ℕ, not, ◌||◌, List, eqb, ltb, Result, Ok}
+use Rattle.refusals.specs.declared.Refusal.{Refusal}
+use Rattle.refusals.specs.Refusals.{first, when, answered, refuses, Answers}
 use Rattle.document.specs.declared.segments.SubCommutation.{SubCommutation}
-use Rattle.document.specs.declared.segments.SubCommutation.TheVariants.{Is, Refused}
 use Rattle.document.specs.Place.{doc_refusal}
 use Rattle.sector_table.specs.Place.{doc_byte}
 
--- the paper's number and values for each answer
-abbrev pub sub_number : SubCommutation → ℕ
-sub_number (Is segment repeat) = 0
-sub_number (Refused k) = k
+-- what the bytes of a line say; a refusal has 0 for both
+abbrev pub sub_commutation_in : List ℕ → SubCommutation
+sub_commutation_in line = record { segment = doc_byte line 194; repeat = doc_byte line 196 }
 
-abbrev pub sub_segment : SubCommutation → ℕ
-sub_segment (Is segment repeat) = segment
-sub_segment (Refused k) = 0
-
-abbrev pub sub_repeat : SubCommutation → ℕ
-sub_repeat (Is segment repeat) = repeat
-sub_repeat (Refused k) = 0
-
-abbrev pub sub_values : SubCommutation → ℕ × ℕ
-sub_values r = (sub_segment r, sub_repeat r)
+abbrev pub no_sub_commutation : SubCommutation
+no_sub_commutation = record { segment = 0; repeat = 0 }
 
 -- 7
 unfoldable pub segment_refusal : ℕ → ℕ → ℕ → ℕ → ℕ
@@ -31,11 +22,8 @@ unfoldable pub sub_commutation_refusal : ℕ → List ℕ → ℕ
 sub_commutation_refusal f line = first (doc_refusal f line) (segment_refusal (doc_byte line 193) (doc_byte line 194) (doc_byte line 195) (doc_byte line 196))
 
 -- THE CONTRACT of `sub_commutation`: the number, and segment and repeat
-abbrev pub SubCommutationOk : ℕ → List ℕ → SubCommutation → Type 0
-SubCommutationOk f line r =
-    (sub_number r ≡ sub_commutation_refusal f line)
-    × (sub_values r ≡ kept (sub_commutation_refusal f line) (0, 0) (doc_byte line 194, doc_byte line 196))
-    × Genuine Refused r
+abbrev pub SubCommutationOk : ℕ → List ℕ → Result SubCommutation Refusal → Type 0
+SubCommutationOk f line r = Answers (sub_commutation_refusal f line) no_sub_commutation (sub_commutation_in line) r
 
-unfoldable pub sub_commutation_answer : ℕ → List ℕ → SubCommutation
-sub_commutation_answer f line = answered Refused (sub_commutation_refusal f line) (Is (doc_byte line 194) (doc_byte line 196))
+unfoldable pub sub_commutation_answer : ℕ → List ℕ → Result SubCommutation Refusal
+sub_commutation_answer f line = answered refuses (sub_commutation_refusal f line) (Ok (sub_commutation_in line))

@@ -3,9 +3,10 @@ ghost use Rattle.std.specs.Prelude.{◌≡◌};
 ghost use Rattle.document.specs.Modes.{mode_of, ScanModeOk, mirror_of, ScannerSelectOk};
 
 use crate::place::{doc_byte, doc_refusal};
+use refusals::Refusal;
 
 // How the scan goes: full disk, the preset lines only, or a single line.
-#[derive(Clone, Copy)]
+#[derive(Clone, Copy, Debug, PartialEq, Eq)]
 pub enum ScanMode {
     Full,
     Limited,
@@ -13,15 +14,8 @@ pub enum ScanMode {
     Unnamed(u8),
 }
 
-// The answer to the scan mode.
-#[derive(Clone, Copy)]
-pub enum Scan {
-    Is(ScanMode),
-    Refused(u8),
-}
-
 // Which mirror scans: 1-A, 1-B, 2-A or 2-B.
-#[derive(Clone, Copy)]
+#[derive(Clone, Copy, Debug, PartialEq, Eq)]
 pub enum Mirror {
     OneA,
     OneB,
@@ -30,56 +24,49 @@ pub enum Mirror {
     Unnamed(u8),
 }
 
-// The answer to scanner select.
-#[derive(Clone, Copy)]
-pub enum Scanner {
-    Is(Mirror),
-    Refused(u8),
-}
-
 // The scan mode that a byte names.
-fn mode_of(byte: u8) -> ScanMode
-    ensures { result ≡ mode_of byte }
-{
-    match byte {
-        0x00 => ScanMode::Full,
-        0x0F => ScanMode::Limited,
-        0xFF => ScanMode::Single,
-        other => ScanMode::Unnamed(other),
+impl From<u8> for ScanMode {
+    ghost from_gives = { λ byte mode. mode ≡ mode_of byte };
+
+    fn from(byte: u8) -> Self {
+        match byte {
+            0x00 => Self::Full,
+            0x0F => Self::Limited,
+            0xFF => Self::Single,
+            other => Self::Unnamed(other),
+        }
     }
 }
 
 // The mirror that a byte names.
-fn mirror_of(byte: u8) -> Mirror
-    ensures { result ≡ mirror_of byte }
-{
-    match byte {
-        0xFF => Mirror::OneA,
-        0xF0 => Mirror::OneB,
-        0x00 => Mirror::TwoA,
-        0x0F => Mirror::TwoB,
-        other => Mirror::Unnamed(other),
+impl From<u8> for Mirror {
+    ghost from_gives = { λ byte mirror. mirror ≡ mirror_of byte };
+
+    fn from(byte: u8) -> Self {
+        match byte {
+            0xFF => Self::OneA,
+            0xF0 => Self::OneB,
+            0x00 => Self::TwoA,
+            0x0F => Self::TwoB,
+            other => Self::Unnamed(other),
+        }
     }
 }
 
 // The scan mode, sector byte 3; refused with 1, 2, 5, 6. No byte is refused.
-pub fn scan_mode(format: u8, line: &[u8]) -> Scan
+#[tactic(auto, using(refusals::proofs::Numbers::answers_err, refusals::proofs::Numbers::answers_ok, crate::proofs::Known::doc_long, crate::proofs::Named::mode_both))]
+pub fn scan_mode(format: u8, line: &[u8]) -> Result<ScanMode, Refusal>
     ensures { ScanModeOk format line.now result }
 {
-    let refused = doc_refusal(format, line);
-    if refused != 0 {
-        return Scan::Refused(refused);
-    }
-    Scan::Is(mode_of(doc_byte(line, 3)))
+    doc_refusal(format, line)?;
+    Ok(doc_byte(line, 3).into())
 }
 
 // Scanner select, sector byte 67; refused with 1, 2, 5, 6. No byte is refused.
-pub fn scanner_select(format: u8, line: &[u8]) -> Scanner
+#[tactic(auto, using(refusals::proofs::Numbers::answers_err, refusals::proofs::Numbers::answers_ok, crate::proofs::Known::doc_long, crate::proofs::Named::mirror_both))]
+pub fn scanner_select(format: u8, line: &[u8]) -> Result<Mirror, Refusal>
     ensures { ScannerSelectOk format line.now result }
 {
-    let refused = doc_refusal(format, line);
-    if refused != 0 {
-        return Scanner::Refused(refused);
-    }
-    Scanner::Is(mirror_of(doc_byte(line, 67)))
+    doc_refusal(format, line)?;
+    Ok(doc_byte(line, 67).into())
 }

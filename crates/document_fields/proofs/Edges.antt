@@ -4,13 +4,9 @@ use mathlib.Core.Bool.{true, false}
 use mathlib.Core.List.{List}
 use mathlib.Core.Logic.{◌⊎◌}
 use Prim.Native.Nat.{ℕ, ◌≤◌, ◌<◌}
-use Rattle.refusals.specs.Refusals.{first, answered, outside_of}
+use Rattle.refusals.specs.Refusals.{first, answered, refuses, outside_of}
 use Rattle.refusals.proofs.Words.{within}
 use Rattle.formats.specs.Formats.{format_refusal}
-use Rattle.numbers.specs.declared.Integer.TheVariants as integer
-use Rattle.numbers.specs.declared.Bcd.TheVariants as bcd
-use Rattle.numbers.specs.declared.Real.TheVariants as real
-use Rattle.floats.specs.declared.Float.TheVariants as float
 use Rattle.numbers.specs.Reals.{form_refusal}
 use Rattle.numbers.proofs.Edges.{NoForm, outside_given, form_given, form_none}
 use Rattle.document_fields.specs.Fields.{no_place, field_refusal, integer_field_refusal, bcd_field_refusal, real_field_refusal, integer_field_answer, bcd_field_answer, real_field_answer, f64_field_answer}
@@ -30,18 +26,18 @@ module _ (f : ℕ) (line : List ℕ) (p n : ℕ) where
 
 -- one that is none of them is 10
 module _ (f : ℕ) (line : List ℕ) (p n : ℕ) (known : format_refusal f ≡ 0) where
-  pub integer_sizes : (n < 1) ⊎ (4 < n) → integer_field_answer f line p n ≡ integer.Refused 10
+  pub integer_sizes : (n < 1) ⊎ (4 < n) → integer_field_answer f line p n ≡ refuses 10
   unfolding integer_field_answer integer_field_refusal field_refusal first answered
   integer_sizes h = rw (known, outside_given 1 4 n 10 h) refl
 
-  pub bcd_sizes : (n < 1) ⊎ (6 < n) → bcd_field_answer f line p n ≡ bcd.Refused 10
+  pub bcd_sizes : (n < 1) ⊎ (6 < n) → bcd_field_answer f line p n ≡ refuses 10
   unfolding bcd_field_answer bcd_field_refusal field_refusal first answered
   bcd_sizes h = rw (known, outside_given 1 6 n 10 h) refl
 
-  pub real_forms : (m : ℕ) → NoForm n m → real_field_answer f line p n m ≡ real.Refused 10
+  pub real_forms : (m : ℕ) → NoForm n m → real_field_answer f line p n m ≡ refuses 10
   unfolding real_field_answer real_field_refusal field_refusal first answered
   real_forms m h = rw (known, form_given n m h) refl
 
-  pub f64_forms : (m : ℕ) → NoForm n m → f64_field_answer f line p n m ≡ float.Refused 10
+  pub f64_forms : (m : ℕ) → NoForm n m → f64_field_answer f line p n m ≡ refuses 10
   unfolding f64_field_answer real_field_refusal field_refusal first answered
   f64_forms m h = rw (known, form_given n m h) refl

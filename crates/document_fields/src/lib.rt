@@ -9,88 +9,75 @@
 #![tactic(auto)]
 
 ghost use Rattle.std.specs.Prelude.{◌≡◌};
+ghost use Rattle.refusals.specs.Refusals.{answer_number};
 ghost use Rattle.document_fields.specs.Fields.{no_place, field_refusal, IntegerFieldOk, BcdFieldOk, RealFieldOk, F64FieldOk};
 
 use document::place::{DOC_BYTES, doc_refusal};
-use floats::{Float, as_float};
+use floats::value;
 use formats::format_refusal;
-use numbers::{Bcd, Integer, Real, form_refusal, read_bcd, read_integer, read_real};
+use numbers::{R, form_refusal, read_bcd, read_integer, read_real};
+use refusals::{Refusal, within};
 
 // Whether n bytes from a place on do not all lie in ID and data, the bytes 1 to 2,293.
+#[tactic(auto, unfolding(crate::specs::Fields::no_place))]
 fn no_place(place: usize, n: usize) -> bool
     ensures { result ≡ no_place place n }
 {
-    if place < 1 {
-        return true;
-    }
-    if DOC_BYTES + 1 < place {
-        return true;
-    }
-    if DOC_BYTES + 1 - place < n {
-        return true;
-    }
-    false
+    place < 1 || DOC_BYTES + 1 < place || DOC_BYTES + 1 - place < n
 }
 
-// What refuses a field of n bytes at a place: 1, then the refusal of its form, 2 where its bytes are not all there, 5, 6; else
-// 0.
-fn field_refusal(form: u8, format: u8, line: &[u8], place: usize, n: usize) -> u8
-    ensures { result ≡ field_refusal form format line.now place n }
+// Refuses a field of n bytes at a place: with 1, then as its form is refused, with 2 where its bytes are not all there, 5, 6.
+#[tactic(auto, using(refusals::proofs::Numbers::refused_first, refusals::proofs::Numbers::passed_first, crate::proofs::Served::no_room, crate::proofs::Served::some_room), unfolding(crate::specs::Fields::field_refusal))]
+fn field_refusal(
+    form: Result<(), Refusal>,
+    format: u8,
+    line: &[u8],
+    place: usize,
+    n: usize,
+) -> Result<(), Refusal>
+    ensures { answer_number result ≡ field_refusal (answer_number form) format line.now place n }
 {
-    let unknown = format_refusal(format);
-    if unknown != 0 {
-        return unknown;
-    }
-    if form != 0 {
-        return form;
-    }
+    format_refusal(format)?;
+    form?;
     if no_place(place, n) {
-        return refusals::SHORT_INPUT;
+        return Err(Refusal::ShortInput);
     }
     doc_refusal(format, line)
 }
 
 // I*n at a place; refused with 1, 10 for n outside 1 to 4, 2 for a short line or a field outside the bytes 1 to 2,293, 5, 6.
-pub fn integer_field(format: u8, line: &[u8], place: usize, n: usize) -> Integer
+#[tactic(auto, using(refusals::proofs::Numbers::answers_err, crate::proofs::Served::served_by), unfolding(crate::specs::Fields::integer_field_refusal))]
+pub fn integer_field(format: u8, line: &[u8], place: usize, n: usize) -> Result<u32, Refusal>
     ensures { IntegerFieldOk format line.now place n result }
 {
-    let form = refusals::outside(1, 4, n as u64, refusals::RANGE);
-    let refused = field_refusal(form, format, line, place, n);
-    if refused != 0 {
-        return Integer::Refused(refused);
-    }
-    let at = place - 1;
-    read_integer(&line[at..], n)
+    let form = within(1, 4, n as u64, Refusal::Range);
+    field_refusal(form, format, line, place, n)?;
+    read_integer(&line[place - 1..], n)
 }
 
 // BCD*n at a place; refused likewise, with 10 for n outside 1 to 6, and last with 7 for a digit over 9.
-pub fn bcd_field(format: u8, line: &[u8], place: usize, n: usize) -> Bcd
+#[tactic(auto, using(refusals::proofs::Numbers::answers_err, refusals::proofs::Numbers::refused_first, crate::proofs::Served::served_by), unfolding(crate::specs::Fields::bcd_field_refusal))]
+pub fn bcd_field(format: u8, line: &[u8], place: usize, n: usize) -> Result<u64, Refusal>
     ensures { BcdFieldOk format line.now place n result }
 {
-    let form = refusals::outside(1, 6, n as u64, refusals::RANGE);
-    let refused = field_refusal(form, format, line, place, n);
-    if refused != 0 {
-        return Bcd::Refused(refused);
-    }
-    let at = place - 1;
-    read_bcd(&line[at..], n)
+    let form = within(1, 6, n as u64, Refusal::Range);
+    field_refusal(form, format, line, place, n)?;
+    read_bcd(&line[place - 1..], n)
 }
 
 // R*n.m at a place as sign, magnitude and places; refused likewise, with 10 for n neither 4 nor 6 or m over 15.
-pub fn real_field(format: u8, line: &[u8], place: usize, n: usize, m: u8) -> Real
+#[tactic(auto, using(refusals::proofs::Numbers::answers_err, crate::proofs::Served::served_by), unfolding(crate::specs::Fields::real_field_refusal))]
+pub fn real_field(format: u8, line: &[u8], place: usize, n: usize, m: u8) -> Result<R, Refusal>
     ensures { RealFieldOk format line.now place n m result }
 {
-    let refused = field_refusal(form_refusal(n, m), format, line, place, n);
-    if refused != 0 {
-        return Real::Refused(refused);
-    }
-    let at = place - 1;
-    read_real(&line[at..], n, m)
+    field_refusal(form_refusal(n, m), format, line, place, n)?;
+    read_real(&line[place - 1..], n, m)
 }
 
 // R*n.m at a place in f64, refused as `real_field` refuses.
-pub fn f64_field(format: u8, line: &[u8], place: usize, n: usize, m: u8) -> Float
+#[tactic(auto, using(refusals::proofs::Numbers::answers_err, floats::proofs::Fitting::float_answers, crate::proofs::Readings::field_fits))]
+pub fn f64_field(format: u8, line: &[u8], place: usize, n: usize, m: u8) -> Result<f64, Refusal>
     ensures { F64FieldOk format line.now place n m result }
 {
-    as_float(real_field(format, line, place, n, m))
+    Ok(value(real_field(format, line, place, n, m)?))
 }

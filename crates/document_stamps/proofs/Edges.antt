@@ -4,21 +4,24 @@ use mathlib.Core.Path.{◌≡◌, refl, ◌∙◌}
 use mathlib.Core.List.{List}
 use Prim.Native.Nat.{ℕ}
 use lib.IntN.{pos, negsuc}
+use Rattle.std.specs.Prelude.{Result}
+use Rattle.refusals.specs.declared.Refusal.{Refusal}
+use Rattle.refusals.specs.Refusals.{answer_number}
 use Rattle.refusals.proofs.Words.{first_none}
 use Rattle.bcd_dates.specs.Dates.{date_in_refusal}
 use Rattle.document.specs.Place.{doc_refusal}
 use Rattle.sector_table.specs.Place.{doc_part}
-use Rattle.document_stamps.specs.Lines.{position_of, counts_refusal, numbered_number, line_numbers_refusal, LineNumbersOk}
-use Rattle.document_stamps.specs.Dates.{dated_number, date_refusal, DateOk}
-use Rattle.document_stamps.specs.declared.lines.Numbered.{Numbered}
-use Rattle.document_stamps.specs.declared.dates.Dated.{Dated}
+use Rattle.document_stamps.specs.Lines.{position_of, counts_refusal, line_numbers_refusal, LineNumbersOk}
+use Rattle.document_stamps.specs.Dates.{date_refusal, DateOk}
+use Rattle.document_stamps.specs.declared.lines.LineNumbers.{LineNumbers}
+use Rattle.bcd_dates.specs.declared.dates.DateTime.{DateTime}
 
 -- bytes 20 to 27, and 7 to 12
-pub date_own : (f : ℕ) (line : List ℕ) (r : Dated) → DateOk f line r → doc_refusal f line ≡ 0 → dated_number r ≡ date_in_refusal (doc_part line 20 8)
+pub date_own : (f : ℕ) (line : List ℕ) (r : Result DateTime Refusal) → DateOk f line r → doc_refusal f line ≡ 0 → answer_number r ≡ date_in_refusal (doc_part line 20 8)
 unfolding date_refusal
 date_own f line r s h = s.0 ∙ first_none (doc_refusal f line) _ h
 
-pub lines_own : (f : ℕ) (line : List ℕ) (r : Numbered) → LineNumbersOk f line r → doc_refusal f line ≡ 0 → numbered_number r ≡ counts_refusal line
+pub lines_own : (f : ℕ) (line : List ℕ) (r : Result LineNumbers Refusal) → LineNumbersOk f line r → doc_refusal f line ≡ 0 → answer_number r ≡ counts_refusal line
 unfolding line_numbers_refusal
 lines_own f line r s h = s.0 ∙ first_none (doc_refusal f line) _ h
 

@@ -1,12 +1,11 @@
 -- The line numbers: set line in bytes 7-8, reset line 9-10, scan count 11-12, BCD; the line position is scan count minus set
 -- line. Assumes nothing.
-use Rattle.std.specs.Prelude.{ℕ, ◌-◌, List, ◌≡◌, ℤ, pos, ◌-ℤ◌}
-use Rattle.refusals.specs.Refusals.{first, answered, kept, Genuine}
+use Rattle.std.specs.Prelude.{ℕ, ◌-◌, List, ℤ, pos, ◌-ℤ◌, Result, Ok}
+use Rattle.refusals.specs.declared.Refusal.{Refusal}
+use Rattle.refusals.specs.Refusals.{first, answered, refuses, Answers}
 use Rattle.bcd_dates.specs.Decimals.{bcd_at, part_refusal}
 use Rattle.document.specs.Place.{doc_refusal}
 use Rattle.document_stamps.specs.declared.lines.LineNumbers.{LineNumbers}
-use Rattle.document_stamps.specs.declared.lines.Numbered.{Numbered}
-use Rattle.document_stamps.specs.declared.lines.Numbered.TheVariants.{Is, Refused}
 
 -- a number of four digits at a place of the sector
 abbrev pub count_at : List ℕ → ℕ → ℕ
@@ -27,17 +26,9 @@ lines_in line = record {
   position = position_of (count_at line 11) (count_at line 7);
 }
 
--- the paper's number and values for each answer; a refusal has 0 for all four
+-- a refusal has 0 for all four
 abbrev pub no_lines : LineNumbers
 no_lines = record { set_line = 0; reset_line = 0; scan_count = 0; position = pos 0 }
-
-abbrev pub numbered_number : Numbered → ℕ
-numbered_number (Is l) = 0
-numbered_number (Refused k) = k
-
-abbrev pub numbered_values : Numbered → LineNumbers
-numbered_values (Is l) = l
-numbered_values (Refused k) = no_lines
 
 -- 7
 unfoldable pub counts_refusal : List ℕ → ℕ
@@ -48,11 +39,8 @@ unfoldable pub line_numbers_refusal : ℕ → List ℕ → ℕ
 line_numbers_refusal f line = first (doc_refusal f line) (counts_refusal line)
 
 -- THE CONTRACT of `line_numbers`: the number, and the line numbers
-abbrev pub LineNumbersOk : ℕ → List ℕ → Numbered → Type 0
-LineNumbersOk f line r =
-    (numbered_number r ≡ line_numbers_refusal f line)
-    × (numbered_values r ≡ kept (line_numbers_refusal f line) no_lines (lines_in line))
-    × Genuine Refused r
+abbrev pub LineNumbersOk : ℕ → List ℕ → Result LineNumbers Refusal → Type 0
+LineNumbersOk f line r = Answers (line_numbers_refusal f line) no_lines (lines_in line) r
 
-unfoldable pub line_numbers_answer : ℕ → List ℕ → Numbered
-line_numbers_answer f line = answered Refused (line_numbers_refusal f line) (Is (lines_in line))
+unfoldable pub line_numbers_answer : ℕ → List ℕ → Result LineNumbers Refusal
+line_numbers_answer f line = answered refuses (line_numbers_refusal f line) (Ok (lines_in line))

@@ -3,28 +3,16 @@ ghost use Rattle.document_stamps.specs.Dates.{DateOk};
 
 use bcd_dates::dates::{DateTime, date_in, date_refusal};
 use document::place::doc_refusal;
-
-// The answer to the date.
-#[derive(Clone, Copy)]
-pub enum Dated {
-    Is(DateTime),
-    Refused(u8),
-}
+use refusals::Refusal;
 
 // The date of a line, sector bytes 20 to 27; refused with 1, 2, 5, 6, and 7 for a digit over 9 or a part out of its range
 // in these eight bytes. A 31st is taken in every month.
-pub fn date(format: u8, line: &[u8]) -> Dated
+#[tactic(auto, using(refusals::proofs::Numbers::answers_err, refusals::proofs::Numbers::answers_ok, refusals::proofs::Numbers::refused_first, refusals::proofs::Numbers::passed_first, document::proofs::Known::doc_long), unfolding(crate::specs::Dates::date_refusal, sector_table::specs::Place::doc_part, bits::specs::Bits::stretch))]
+pub fn date(format: u8, line: &[u8]) -> Result<DateTime, Refusal>
     ensures { DateOk format line.now result }
 {
-    let refused = doc_refusal(format, line);
-    if refused != 0 {
-        return Dated::Refused(refused);
-    }
-    let from: usize = 19;
-    let to: usize = 27;
-    let wrong = date_refusal(&line[from..to]);
-    if wrong != 0 {
-        return Dated::Refused(wrong);
-    }
-    Dated::Is(date_in(&line[from..to]))
+    doc_refusal(format, line)?;
+    let bytes = &line[19..27];
+    date_refusal(bytes)?;
+    Ok(date_in(bytes))
 }

@@ -1,14 +1,15 @@
 // The line numbers of the documentation sector: set line, reset line, scan count, and the line position.
 ghost use Rattle.std.specs.Prelude.{◌≡◌, ◌≤◌, length};
 ghost use Rattle.formats.specs.Formats.{line_bytes};
+ghost use Rattle.refusals.specs.Refusals.{answer_number};
 ghost use Rattle.document_stamps.specs.Lines.{counts_refusal, position_of, lines_in, LineNumbersOk};
 
 use bcd_dates::decimals::{four_digits, part_refusal};
 use document::place::doc_refusal;
-use refusals::first;
+use refusals::Refusal;
 
 // Line numbers from 0 to 9,999; the position of the line in the picture lies from -9,999 to 9,999.
-#[derive(Clone, Copy)]
+#[derive(Clone, Copy, Debug, PartialEq, Eq)]
 pub struct LineNumbers {
     pub set_line: u16,
     pub reset_line: u16,
@@ -16,32 +17,27 @@ pub struct LineNumbers {
     pub position: i32,
 }
 
-// The answer to the line numbers.
-#[derive(Clone, Copy)]
-pub enum Numbered {
-    Is(LineNumbers),
-    Refused(u8),
-}
-
-// 7 where one of the three numbers has a digit over 9; else 0.
-fn counts_refusal(line: &[u8]) -> u8
+// Refuses, with 7, where one of the three numbers has a digit over 9.
+#[tactic(auto, using(refusals::proofs::Numbers::refused_first, refusals::proofs::Numbers::passed_first), unfolding(crate::specs::Lines::counts_refusal))]
+fn counts_refusal(line: &[u8]) -> Result<(), Refusal>
     requires { line_bytes ≤ length line.now }
-    ensures { result ≡ counts_refusal line.now }
+    ensures { answer_number result ≡ counts_refusal line.now }
 {
-    let set = part_refusal(line, 6, 2, 0, 9999);
-    let reset = part_refusal(line, 8, 2, 0, 9999);
-    let count = part_refusal(line, 10, 2, 0, 9999);
-    first(set, first(reset, count))
+    part_refusal(line, 6, 2, 0, 9999)?;
+    part_refusal(line, 8, 2, 0, 9999)?;
+    part_refusal(line, 10, 2, 0, 9999)
 }
 
 // Scan count minus set line.
+#[tactic(auto, using(crate::proofs::Position::position_fits), unfolding(crate::specs::Lines::position_of))]
 fn position_of(count: u16, set: u16) -> i32
     ensures { result ≡ position_of count set }
 {
-    (count as i32) - (set as i32)
+    i32::from(count) - i32::from(set)
 }
 
 // The three numbers and the position.
+#[tactic(auto, unfolding(crate::specs::Lines::lines_in))]
 fn lines_in(line: &[u8]) -> LineNumbers
     requires { line_bytes ≤ length line.now }
     ensures { result ≡ lines_in line.now }
@@ -54,22 +50,17 @@ fn lines_in(line: &[u8]) -> LineNumbers
         set_line: set,
         reset_line: reset,
         scan_count: count,
-        position: position,
+        position,
     }
 }
 
 // Set line, reset line and scan count, sector bytes 7 to 12, with the line position; refused with 1, 2, 5, 6, and 7 for a
 // digit over 9 in these six bytes.
-pub fn line_numbers(format: u8, line: &[u8]) -> Numbered
+#[tactic(auto, using(refusals::proofs::Numbers::answers_err, refusals::proofs::Numbers::answers_ok, refusals::proofs::Numbers::refused_first, refusals::proofs::Numbers::passed_first, document::proofs::Known::doc_long), unfolding(crate::specs::Lines::line_numbers_refusal))]
+pub fn line_numbers(format: u8, line: &[u8]) -> Result<LineNumbers, Refusal>
     ensures { LineNumbersOk format line.now result }
 {
-    let refused = doc_refusal(format, line);
-    if refused != 0 {
-        return Numbered::Refused(refused);
-    }
-    let wrong = counts_refusal(line);
-    if wrong != 0 {
-        return Numbered::Refused(wrong);
-    }
-    Numbered::Is(lines_in(line))
+    doc_refusal(format, line)?;
+    counts_refusal(line)?;
+    Ok(lines_in(line))
 }

@@ -1,5 +1,5 @@
 -- What is known once an entry is not refused. Assumes nothing.
-use mathlib.Core.Path.{◌≡◌, ◌∙◌}
+use mathlib.Core.Path.{◌≡◌, sym, ◌∙◌}
 use mathlib.Core.Bool.{not}
 use Prim.Native.Nat.{ℕ, ◌≤◌}
 use native.Mathlib.Omega.{arith}
@@ -9,9 +9,9 @@ use Rattle.refusals.specs.Refusals.{first, when, short_of, outside_of}
 use Rattle.refusals.proofs.Words.{first_none, none_first, none_second, none_when, enough, inside}
 use Rattle.formats.specs.Formats.{format_refusal}
 use Rattle.blocks.specs.declared.marks.Marks.{Marks}
-use Rattle.blocks.specs.Blocks.{blocks, block_of, mapping, block_refusal}
+use Rattle.blocks.specs.Blocks.{blocks, block_of, mapping, orbit, block_refusal}
 use Rattle.blocks.specs.Marking.{all_marks, marks_refusal, unfinished_refusal}
-use Rattle.entries.specs.Entries.{entry_refusal, grid_refusal, mapping_refusal}
+use Rattle.entries.specs.Entries.{entry_refusal, grid_refusal, mapping_refusal, elements_refusal}
 
 -- WHAT IS KNOWN ONCE AN ENTRY IS GIVEN: the channel is served, the point in range, the block whole and finished
 pub record Given (m : Marks) (n channel range given : ℕ) : Type 0 where
@@ -66,3 +66,11 @@ in_grid f m i j len e =
       column = (inside 0 24 j 10 (λ z. omega arith) (none_second rows columns h.ranged)).high;
       room = h.room;
     }
+
+-- the same of the code's answer, and that the block of orbital elements is there
+pub point_known : (f : ℕ) (m : Marks) (i j len : ℕ) → 0 ≡ mapping_refusal f m i j len → InGrid i j len
+point_known f m i j len e = in_grid f m i j len (sym e)
+
+pub orbit_room : (f : ℕ) (m : Marks) (len : ℕ) → 0 ≡ elements_refusal f m len → 3200 ≤ len
+unfolding block_of blocks
+orbit_room f m len e = (given f m orbit 0 0 len (sym e)).room

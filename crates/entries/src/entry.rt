@@ -1,6 +1,7 @@
 // What every entry of a finished block tests, and the numbers at a place of it. Places count bytes from 1.
 ghost use Rattle.std.specs.Prelude.{◌≡◌, false, ◌+◌, ◌-◌, ◌≤◌, length};
 ghost use Rattle.bits.specs.Bits.{stretch};
+ghost use Rattle.refusals.specs.Refusals.{answer_number};
 ghost use Rattle.numbers.specs.Reals.{no_real, real_in};
 ghost use Rattle.floats.specs.Floats.{value_of};
 ghost use Rattle.entries.specs.Entries.{entry_refusal};
@@ -8,29 +9,29 @@ ghost use Rattle.entries.specs.Entries.{entry_refusal};
 use blocks::block::{block_of, block_refusal};
 use blocks::marks::{Marks, marks_refusal, unfinished_refusal};
 use formats::format_refusal;
-use numbers::{R, Real};
-use refusals::{first, short};
+use numbers::{R, read_real};
+use refusals::{Refusal, enough};
 
 // Inner. What refuses an entry of a block: 1, 12, 4, 10, 2 where its buffer is under its size, 9 where not all its segments
-// are marked; else 0. What the call itself says of its channel, 4 or 0, and of its level or grid point, 10 or 0, is
-// handed in.
+// are marked. What the call itself says of its channel, by 4, and of its level or grid point, by 10, is handed in.
+#[tactic(auto, using(refusals::proofs::Numbers::refused_first, refusals::proofs::Numbers::passed_first), unfolding(crate::specs::Entries::entry_refusal))]
 pub fn entry_refusal(
     format: u8,
     marks: Marks,
     number: u8,
-    channel: u8,
-    range: u8,
+    channel: Result<(), Refusal>,
+    range: Result<(), Refusal>,
     given: usize,
-) -> u8
-    ensures { result ≡ entry_refusal format marks number channel range given }
+) -> Result<(), Refusal>
+    ensures { answer_number result ≡ entry_refusal format marks number (answer_number channel) (answer_number range) given }
 {
-    let asked = first(format_refusal(format), marks_refusal(marks));
-    let named = first(first(block_refusal(format, number), channel), range);
-    let whole = first(
-        short(given, block_of(number).size, refusals::SHORT_INPUT),
-        unfinished_refusal(marks),
-    );
-    first(asked, first(named, whole))
+    format_refusal(format)?;
+    marks_refusal(marks)?;
+    block_refusal(format, number)?;
+    channel?;
+    range?;
+    enough(given, block_of(number).size, Refusal::ShortInput)?;
+    unfinished_refusal(marks)
 }
 
 // Inner. The R*n.m number at a place.
@@ -40,17 +41,11 @@ pub fn real_at(block: &[u8], place: usize, n: usize, m: u8) -> R
 {
     let at = place - 1;
     let end = at + n;
-    match numbers::read_real(&block[at..end], n, m) {
-        Real::Is(r) => r,
-        Real::Refused(_) => R {
-            negative: false,
-            magnitude: 0,
-            places: 0,
-        },
-    }
+    read_real(&block[at..end], n, m).unwrap()
 }
 
 // Inner. The same in f64.
+#[tactic(auto, using(floats::proofs::Fitting::real_fits))]
 pub fn float_at(block: &[u8], place: usize, n: usize, m: u8) -> f64
     requires { (1 ≤ place) × (place + n ≤ length block.now + 1) × (no_real n m ≡ false) }
     ensures { result ≡ value_of (real_in n m (stretch block.now (place - 1) n)) }

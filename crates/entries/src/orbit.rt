@@ -5,10 +5,11 @@ ghost use Rattle.entries.specs.Entries.{elements_in, ElementsOk};
 use crate::entry::{entry_refusal, float_at};
 use blocks::assembly::Assembly;
 use blocks::block::ORBIT;
+use refusals::Refusal;
 
 // The orbital elements, in the order of source 000's table 12, words 157 to 198: epoch (MJD), semi-major axis (km),
 // eccentricity, inclination, longitude of the ascending node, argument of perigee, mean anomaly (degrees).
-#[derive(Clone, Copy)]
+#[derive(Clone, Copy, Debug, PartialEq)]
 pub struct Orbit {
     pub epoch: f64,
     pub axis: f64,
@@ -19,14 +20,8 @@ pub struct Orbit {
     pub anomaly: f64,
 }
 
-// The answer to the elements.
-#[derive(Clone, Copy)]
-pub enum Orbital {
-    Is(Orbit),
-    Refused(u8),
-}
-
 // Inner. The elements of an orbit block: seven R*6 numbers, m 8 but 10 for the eccentricity.
+#[tactic(auto, unfolding(crate::specs::Entries::elements_in, crate::specs::Entries::element_at, numbers::specs::Reals::no_real))]
 fn elements_in(block: &[u8]) -> Orbit
     requires { 3200 ≤ length block.now }
     ensures { result ≡ elements_in block.now }
@@ -43,12 +38,10 @@ fn elements_in(block: &[u8]) -> Orbit
 }
 
 // The orbital elements of a finished orbit block. Refused with 1, 12, 2, 9.
-pub fn elements(format: u8, assembly: Assembly, block: &[u8]) -> Orbital
+#[tactic(auto, using(refusals::proofs::Numbers::answers_err, refusals::proofs::Numbers::answers_ok, crate::proofs::Known::orbit_room))]
+pub fn elements(format: u8, assembly: Assembly, block: &[u8]) -> Result<Orbit, Refusal>
     ensures { ElementsOk format assembly.marks block.now result }
 {
-    let refused = entry_refusal(format, assembly.marks, ORBIT, 0, 0, block.len());
-    if refused != 0 {
-        return Orbital::Refused(refused);
-    }
-    Orbital::Is(elements_in(block))
+    entry_refusal(format, assembly.marks, ORBIT, Ok(()), Ok(()), block.len())?;
+    Ok(elements_in(block))
 }

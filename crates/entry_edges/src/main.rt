@@ -2,15 +2,17 @@
 // The expected lines in `stdout` follow from documents 01 and 02, and not from a run of this program.
 #![tactic(auto)]
 
+use std::io;
+use text::Stop;
+
 mod check_from_ones;
 mod entries_at_edges;
 
-// A byte as a number for a row.
-fn byte(n: u8) -> u64 {
-    n as u64
+fn all(rt: &HostRuntime) -> io::Result<()> {
+    entries_at_edges::all(rt)?;
+    check_from_ones::all(rt)
 }
 
 fn main(rt: HostRuntime) {
-    entries_at_edges::all(&rt);
-    check_from_ones::all(&rt);
+    text::end(&rt, all(&rt).map_err(Stop::from));
 }

@@ -9,12 +9,13 @@ use lib.ListN.{length, take, drop, take-append-drop}
 use Rattle.bits.specs.Bits.{in_arow}
 use Rattle.formats.specs.Formats.{format_of}
 use Rattle.formats.specs.declared.Format.{Format}
-use Rattle.formats.specs.declared.FormatAnswer.TheVariants.{Is}
+use Rattle.std.specs.Prelude.{Ok}
 use Rattle.reader_record.specs.declared.State.{State}
 use Rattle.reader_refusals.specs.Refusing.{largest_setting}
 use Rattle.desk_record.specs.declared.Desk.{Desk}
 use Rattle.desk_record.specs.Slots.{slot_of, held_by}
-use Rattle.desk.specs.Calls.{seen_answer}
+use Rattle.refusals.specs.Refusals.{answer_number}
+use Rattle.desk.specs.Calls.{seen_answer, part_seen}
 use Rattle.histories.specs.Histories.{Done, History}
 use Rattle.histories.proofs.Steps.{seen_it}
 use Rattle.feeding.specs.Area.{slot_at, part_of}
@@ -54,7 +55,7 @@ of_recording (feeder.Feeder.publishes i n r l) = let w = of_recording r in recor
 of_recording (feeder.Feeder.next r) = let w = of_recording r in record { fed = w.fed; fed_so = w.fed_so; all = w.all }
 of_recording (feeder.Feeder.releases c i n r) = let w = of_recording r in record { fed = w.fed; fed_so = run.Fed.releases c i n w.fed_so; all = w.all }
 
-module _ (f : ℕ) (format : Format) (ok : format_of f ≡ Is format) (setting : ℕ) (small : setting ≤ largest_setting) (count : ℕ) (first : List ℕ) (pieces : List (List ℕ))
+module _ (f : ℕ) (format : Format) (ok : format_of f ≡ Ok format) (setting : ℕ) (small : setting ≤ largest_setting) (count : ℕ) (first : List ℕ) (pieces : List (List ℕ))
     {k : ℕ} {s : State} {d : Desk} {area : List ℕ} {rest : List (List ℕ)} (r : Feeder f setting count first pieces k s d area rest) where
   -- A LINE IS A LINE: what consumer c holds under serial n
   pub class_line : (c i n : ℕ) → held_by c n (slot_of d i) ≡ true → OneSlot f setting n (in_arow pieces) (slot_at i area)
@@ -63,7 +64,7 @@ module _ (f : ℕ) (format : Format) (ok : format_of f ≡ Is format) (setting :
       subst (λ (x : List ℕ). OneSlot f setting n x (slot_at i area)) w.all (held_pixels f format ok setting small count first w.fed_so c i n e (in_arow rest))
 
   -- and so what it reads where `seen` points
-  pub class_seen : (c i n : ℕ) → (seen_answer d (length area) c i n).refused ≡ 0 → OneSlot f setting n (in_arow pieces) (part_of (seen_answer d (length area) c i n) area)
+  pub class_seen : (c i n : ℕ) → answer_number (seen_answer d (length area) c i n) ≡ 0 → OneSlot f setting n (in_arow pieces) (part_of (part_seen (seen_answer d (length area) c i n)) area)
   class_seen c i n e =
       subst (λ (x : List ℕ). OneSlot f setting n (in_arow pieces) x) (sym (seen_slot d c i n area e)) (class_line c i n (seen_it d (length area) c i n e).held)
 

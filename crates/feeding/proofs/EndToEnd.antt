@@ -10,15 +10,19 @@ use borrow.Author.Tests.{eqb-true, eqb-false, eq-eqb, ltb-true, ltb-false, leb-t
 use lib.Dec.{eqb, ltb, leb}
 use lib.ListN.{length, take, drop, length-append, length-set, take-append-drop}
 use lib.Seq.{take_all}
+use Rattle.std.specs.Prelude.{Result, Ok, Err}
+use Rattle.refusals.specs.declared.Refusal.{Refusal}
+use Rattle.reader_line.specs.declared.Reading.{Reading}
+use Rattle.refusals.specs.Refusals.{answer_number}
+use Rattle.refusals.proofs.Numbers.{number_some}
 use Rattle.reader_refusals.specs.Refusing.{largest_setting}
 use Rattle.bits.specs.Bits.{bits_of}
 use Rattle.bits.proofs.Bytes.{bits_append}
 use Rattle.formats.specs.Formats.{line_bytes, format_of}
 use Rattle.formats.specs.declared.Format.{Format}
-use Rattle.formats.specs.declared.FormatAnswer.TheVariants.{Is}
 use Rattle.desk_record.specs.Slots.{slot_of, is_free, held_by, let_go}
 use Rattle.desk_record.specs.Desks.{lowest_of, with_slot, taken_desk, empty_desk, possible_of}
-use Rattle.desk.specs.Calls.{take_answer, publish_answer, release_answer}
+use Rattle.desk.specs.Calls.{take_answer, publish_answer, release_answer, desk_after, take_after}
 use Rattle.histories.specs.Histories as histories
 use Rattle.histories.specs.Histories.{Done, History}
 use Rattle.desk_record.specs.declared.Desk.{Desk}
@@ -34,7 +38,7 @@ use Rattle.reader_bits.specs.Lines.{lines, recorded}
 use Rattle.reader.specs.Read.{read_answer, read_left}
 use Rattle.reader_record.specs.Records.{fresh_state}
 use Rattle.reader_record.specs.declared.State.{State}
-use Rattle.reader_line.specs.declared.Answer.TheVariants.{More, Line}
+use Rattle.reader_line.specs.declared.Reading.TheVariants.{More, Line}
 use Rattle.cuts.proofs.Keeps.{line_between}
 use Rattle.cuts.proofs.Later.{lines_first}
 use Rattle.feeding.specs.Area.{slot_at, area_after, line_no}
@@ -123,8 +127,8 @@ holds_start f setting count first =
     }
 
 module _ (f setting count k : ℕ) (s : State) (d : Desk) (area bytes : List ℕ) (h : Holds f setting count k s d area bytes) where
-  holds_take : Holds f setting count k s (take_answer d (length area)).desk area bytes
-  holds_take = by (eqb (take_answer d (length area)).refused 0) refl
+  holds_take : Holds f setting count k s (take_after d (take_answer d (length area))).desk area bytes
+  holds_take = by (eqb (answer_number (take_answer d (length area))) 0) refl
     where
       i : ℕ
       i = lowest_of d
@@ -157,9 +161,9 @@ module _ (f setting count k : ℕ) (s : State) (d : Desk) (area bytes : List ℕ
               let x : ◌≡◌ {A = ℕ} 0 1 = cc in
               omega arith
 
-      by : (t : Bool) → eqb (take_answer d (length area)).refused 0 ≡ t → Holds f setting count k s (take_answer d (length area)).desk area bytes
+      by : (t : Bool) → eqb (answer_number (take_answer d (length area))) 0 ≡ t → Holds f setting count k s (take_after d (take_answer d (length area))).desk area bytes
       by true x =
-          let z = eqb-true (take_answer d (length area)).refused 0 x in
+          let z = eqb-true (answer_number (take_answer d (length area))) 0 x in
           let t = took_it d (length area) z in
           let a = t.served in
           let w : slot_of (taken_desk d) i ≡ u = slot_same d i u (omega (arith, a.slot, a.counts.most, h.slots)) in
@@ -178,10 +182,10 @@ module _ (f setting count k : ℕ) (s : State) (d : Desk) (area bytes : List ℕ
             ready = λ j n g l. ready w j n (eqb j i) refl g l;
             now = λ e. now t.free (h.now e);
           })
-      by false x = rw (take_kept d (length area) (eqb-false (take_answer d (length area)).refused 0 x)) h
+      by false x = rw (take_kept d (length area) (eqb-false (answer_number (take_answer d (length area))) 0 x)) h
 
-  holds_publish : (i n : ℕ) → n ≤ k → Holds f setting count k s (publish_answer d (length area) i n).desk area bytes
-  holds_publish i n l = by (eqb (publish_answer d (length area) i n).refused 0) refl
+  holds_publish : (i n : ℕ) → n ≤ k → Holds f setting count k s (desk_after d (publish_answer d (length area) i n)) area bytes
+  holds_publish i n l = by (eqb (answer_number (publish_answer d (length area) i n)) 0) refl
     where
       u : Use
       u = Held n true true
@@ -212,9 +216,9 @@ module _ (f setting count k : ℕ) (s : State) (d : Desk) (area bytes : List ℕ
           other : w.slot ≡ i → ⊥
           other z = let y = filling_same n (suc k) (slot_of d i) e (ap (slot_of d) (sym z) ∙ w.used) in omega arith
 
-      by : (t : Bool) → eqb (publish_answer d (length area) i n).refused 0 ≡ t → Holds f setting count k s (publish_answer d (length area) i n).desk area bytes
+      by : (t : Bool) → eqb (answer_number (publish_answer d (length area) i n)) 0 ≡ t → Holds f setting count k s (desk_after d (publish_answer d (length area) i n)) area bytes
       by true x =
-          let z = eqb-true (publish_answer d (length area) i n).refused 0 x in
+          let z = eqb-true (answer_number (publish_answer d (length area) i n)) 0 x in
           let t = published_it d (length area) i n z in
           let a = t.served in
           let w : slot_of (with_slot d i u) i ≡ u = slot_same d i u (omega (arith, a.below, a.counts.most, h.slots)) in
@@ -233,10 +237,10 @@ module _ (f setting count k : ℕ) (s : State) (d : Desk) (area bytes : List ℕ
             ready = λ j m g b. ready w j m (eqb j i) refl g b;
             now = λ e. now t.filling (h.now e);
           })
-      by false x = rw (publish_kept d (length area) i n (eqb-false (publish_answer d (length area) i n).refused 0 x)) h
+      by false x = rw (publish_kept d (length area) i n (eqb-false (answer_number (publish_answer d (length area) i n)) 0 x)) h
 
-  holds_release : (c i n : ℕ) → Holds f setting count k s (release_answer d (length area) c i n).desk area bytes
-  holds_release c i n = by (eqb (release_answer d (length area) c i n).refused 0) refl
+  holds_release : (c i n : ℕ) → Holds f setting count k s (desk_after d (release_answer d (length area) c i n)) area bytes
+  holds_release c i n = by (eqb (answer_number (release_answer d (length area) c i n)) 0) refl
     where
       u : Use
       u = let_go c (slot_of d i)
@@ -271,9 +275,9 @@ module _ (f setting count k : ℕ) (s : State) (d : Desk) (area bytes : List ℕ
           other : w.slot ≡ i → ⊥
           other z = false≢true (rw (ap (slot_of d) (sym z) ∙ w.used) at e)
 
-      by : (t : Bool) → eqb (release_answer d (length area) c i n).refused 0 ≡ t → Holds f setting count k s (release_answer d (length area) c i n).desk area bytes
+      by : (t : Bool) → eqb (answer_number (release_answer d (length area) c i n)) 0 ≡ t → Holds f setting count k s (desk_after d (release_answer d (length area) c i n)) area bytes
       by true x =
-          let z = eqb-true (release_answer d (length area) c i n).refused 0 x in
+          let z = eqb-true (answer_number (release_answer d (length area) c i n)) 0 x in
           let t = released_it d (length area) c i n z in
           let a = t.served in
           let w : slot_of (with_slot d i u) i ≡ u = slot_same d i u (omega (arith, a.below, a.counts.most, h.slots)) in
@@ -292,7 +296,7 @@ module _ (f setting count k : ℕ) (s : State) (d : Desk) (area bytes : List ℕ
             ready = λ j m g b. ready w j m (eqb j i) refl g b;
             now = λ e. now t.held (h.now e);
           })
-      by false x = rw (release_kept d (length area) c i n (eqb-false (release_answer d (length area) c i n).refused 0 x)) h
+      by false x = rw (release_kept d (length area) c i n (eqb-false (answer_number (release_answer d (length area) c i n)) 0 x)) h
 
   -- a call of `read` with the slot of the next line lent
   module _ (i : ℕ) (used : slot_of d i ≡ Filling (suc k)) (p : List ℕ) (t : ℕ) (s' : State) where
@@ -338,7 +342,7 @@ module _ (f setting count k : ℕ) (s : State) (d : Desk) (area bytes : List ℕ
         not_here : j ≡ i → ⊥
         not_here z = let y = filling_same m (suc k) (slot_of d i) (ap (slot_of d) (sym z) ∙ e) used in omega arith
 
-    holds_read : read_answer f setting s p (slot_at i area) ≡ More t s' → Holds f setting count k s' d (area_after f setting s p i area) (bytes ++ take t p)
+    holds_read : read_answer f setting s p (slot_at i area) ≡ Ok (More t s') → Holds f setting count k s' d (area_after f setting s p i area) (bytes ++ take t p)
     holds_read e = record {
       buf = read_left f setting s p (slot_at i area);
       ls = h.ls;
@@ -354,7 +358,7 @@ module _ (f setting count k : ℕ) (s : State) (d : Desk) (area bytes : List ℕ
       now = λ x. record { slot = i; used = used; same = sym put };
     }
 
-    holds_get : read_answer f setting s p (slot_at i area) ≡ Line t s' → Holds f setting count (suc k) s' d (area_after f setting s p i area) (bytes ++ take t p)
+    holds_get : read_answer f setting s p (slot_at i area) ≡ Ok (Line t s') → Holds f setting count (suc k) s' d (area_after f setting s p i area) (bytes ++ take t p)
     unfolding line_in
     holds_get e = record {
       buf = read_left f setting s p (slot_at i area);
@@ -409,7 +413,7 @@ still_line setting s bytes later n l e =
     ∙ append_assoc xs (drop m (bits_of bytes)) (bits_of later) in
     rw z (no_take_is n (length (lines setting xs)) (lines setting (xs ++ ys)) l (rw (lines_first setting xs ys) e))
 
-module _ (f : ℕ) (format : Format) (ok : format_of f ≡ Is format) (setting : ℕ) (small : setting ≤ largest_setting) (count : ℕ) (first : List ℕ)
+module _ (f : ℕ) (format : Format) (ok : format_of f ≡ Ok format) (setting : ℕ) (small : setting ≤ largest_setting) (count : ℕ) (first : List ℕ)
     {k : ℕ} {s : State} {d : Desk} {area fed : List ℕ} (r : Fed f setting count first k s d area fed) where
   -- WHAT A HOLDER READS: at every moment, a slot that consumer c holds under serial n has, bit for bit, the n-th line that the
   -- plain definition finds in the bytes fed, whatever bytes will follow them

@@ -8,17 +8,21 @@ use native.Mathlib.Omega.{arith}
 use borrow.Author.Tests.{eq-eqb, ne_eqb}
 use lib.Dec.{eqb}
 use lib.ListN.{length, take}
+use Rattle.std.specs.Prelude.{Result, Ok, Err}
+use Rattle.refusals.specs.declared.Refusal.{Refusal}
+use Rattle.reader_line.specs.declared.Reading.{Reading}
+use Rattle.refusals.specs.Refusals.{answer_number}
+use Rattle.refusals.proofs.Numbers.{number_some}
 use Rattle.reader_refusals.specs.Refusing.{largest_setting}
 use Rattle.formats.specs.Formats.{format_of}
 use Rattle.formats.specs.declared.Format.{Format}
-use Rattle.formats.specs.declared.FormatAnswer.TheVariants.{Is}
 use Rattle.cuts.specs.Driven as driven
 use Rattle.cuts.specs.Driven.{lent_for, line_in, Moment, bits_read}
 use Rattle.reader_bits.specs.Lines.{lines}
 use Rattle.reader.specs.Read.{read_answer, read_left}
 use Rattle.reader_record.specs.Records.{fresh_state}
 use Rattle.reader_record.specs.declared.State.{State}
-use Rattle.reader_line.specs.declared.Answer.TheVariants.{More, Line}
+use Rattle.reader_line.specs.declared.Reading.TheVariants.{More, Line}
 use Rattle.cuts.proofs.Moments.{at_every_moment}
 
 -- a moment depends on what was lent up to it
@@ -72,7 +76,7 @@ module _ {f setting : ℕ} {s : State} {buf bytes : List ℕ} {ls : List (List �
       go true e = rw e (sym (same e))
       go false e = rw (e, eq-eqb r.calls r.calls refl) refl
 
-  pub reached_on : read_answer f setting s p b ≡ More t s' → Reached f setting s' (read_left f setting s p b) (bytes ++ take t p) ls
+  pub reached_on : read_answer f setting s p b ≡ Ok (More t s') → Reached f setting s' (read_left f setting s p b) (bytes ++ take t p) ls
   reached_on e = record {
     lend = next;
     long = next_long;
@@ -83,7 +87,7 @@ module _ {f setting : ℕ} {s : State} {buf bytes : List ℕ} {ls : List (List �
         (driven.Moment.on p before (ap (λ (x : List ℕ). read_answer f setting s p x) lent ∙ e));
   }
 
-  pub reached_got : read_answer f setting s p b ≡ Line t s' → Reached f setting s' (read_left f setting s p b) (bytes ++ take t p) (ls ++ (line_in (read_left f setting s p b) ∷ []))
+  pub reached_got : read_answer f setting s p b ≡ Ok (Line t s') → Reached f setting s' (read_left f setting s p b) (bytes ++ take t p) (ls ++ (line_in (read_left f setting s p b) ∷ []))
   reached_got e = record {
     lend = next;
     long = next_long;
@@ -95,6 +99,6 @@ module _ {f setting : ℕ} {s : State} {buf bytes : List ℕ} {ls : List (List �
   }
 
 -- the lines handed out are those of the bits read
-pub reached_lines : (f : ℕ) (format : Format) → format_of f ≡ Is format → (setting : ℕ) → setting ≤ largest_setting → {s : State} {buf bytes : List ℕ} {ls : List (List ℕ)} → Reached f setting s buf bytes ls
+pub reached_lines : (f : ℕ) (format : Format) → format_of f ≡ Ok format → (setting : ℕ) → setting ≤ largest_setting → {s : State} {buf bytes : List ℕ} {ls : List (List ℕ)} → Reached f setting s buf bytes ls
     → ls ≡ lines setting (bits_read s bytes)
 reached_lines f format ok setting small r = at_every_moment f format ok setting small r.lend r.long r.first r.room r.moment

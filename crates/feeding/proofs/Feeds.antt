@@ -10,15 +10,19 @@ use native.Mathlib.Omega.{arith}
 use borrow.Author.Tests.{lt-leb, eq-eqb}
 use lib.ListN.{length, take, drop, length-append, length-drop, take-append-drop}
 use lib.Seq.{length-take-le}
+use Rattle.std.specs.Prelude.{Result, Ok, Err}
+use Rattle.refusals.specs.declared.Refusal.{Refusal}
+use Rattle.reader_line.specs.declared.Reading.{Reading}
+use Rattle.refusals.specs.Refusals.{answer_number}
+use Rattle.refusals.proofs.Numbers.{number_some}
 use Rattle.reader_refusals.specs.Refusing.{largest_setting}
 use Rattle.formats.specs.Formats.{line_bytes, format_of}
 use Rattle.formats.specs.declared.Format.{Format}
-use Rattle.formats.specs.declared.FormatAnswer.TheVariants.{Is}
 use Rattle.refusals.specs.Refusals.{first, when}
 use Rattle.desk_record.specs.Slots.{slot_of, held_by, let_go}
 use Rattle.desk_record.specs.Desks.{lowest_of, last_serial, empty_desk}
 use Rattle.desk_refusals.specs.Asked.{none_refusal}
-use Rattle.desk.specs.Calls.{take_answer, publish_answer, release_answer}
+use Rattle.desk.specs.Calls.{take_answer, publish_answer, release_answer, desk_after, take_after}
 use Rattle.desk_record.specs.declared.Desk.{Desk}
 use Rattle.desk_record.specs.declared.Use.{Use}
 use Rattle.desk_record.specs.declared.Use.TheVariants.{Free, Filling, Held}
@@ -28,11 +32,10 @@ use Rattle.desk_whole.proofs.LowestFree.{lowest_here}
 use Rattle.histories.proofs.Past.{empty_slot}
 use Rattle.histories.proofs.StaysPossible.{always_possible}
 use Rattle.histories.proofs.Steps.{slot_same, took_it, published_it, released_it}
-use Rattle.reader.specs.Read.{read_answer, read_left, refusal_of, taken_by}
+use Rattle.reader.specs.Read.{read_answer, read_left, taken_by}
 use Rattle.reader_record.specs.Records.{fresh_state}
 use Rattle.reader_record.specs.declared.State.{State}
-use Rattle.reader_line.specs.declared.Answer.{Answer}
-use Rattle.reader_line.specs.declared.Answer.TheVariants.{Refused, More, Line}
+use Rattle.reader_line.specs.declared.Reading.TheVariants.{More, Line}
 use Rattle.cuts.proofs.Advances.{takes_most, takes_one}
 use Rattle.feeding.specs.Area.{slot_at, area_after}
 use Rattle.feeding.specs.Fed as run
@@ -42,7 +45,7 @@ use Rattle.feeding.proofs.Places.{slot_length, put_length}
 use Rattle.feeding.proofs.Serving.{read_served, publish_served, release_served}
 use Rattle.cuts.proofs.Sized.{read_length}
 
-module _ (f : ℕ) (format : Format) (ok : format_of f ≡ Is format) (setting : ℕ) (small : setting ≤ largest_setting) (count : ℕ) (least : 2 ≤ count) (most : count ≤ 8)
+module _ (f : ℕ) (format : Format) (ok : format_of f ≡ Ok format) (setting : ℕ) (small : setting ≤ largest_setting) (count : ℕ) (least : 2 ≤ count) (most : count ≤ 8)
     (first-area : List ℕ) (room : count * line_bytes ≤ length first-area) where
   abbrev Run : ℕ → State → Desk → List ℕ → List ℕ → Type 0
   Run k s d area fed = Fed f setting count first-area k s d area fed
@@ -95,7 +98,7 @@ module _ (f : ℕ) (format : Format) (ok : format_of f ≡ Is format) (setting :
         let none : none_refusal d ≡ 0 = rw (m.last, lt-leb last_serial n l, low, lt-leb d.count 0 (omega (arith, a.least))) refl in
         let t = took_it d (length area) (take_answers d (length area) a ∙ none) in
         record {
-          desk = (take_answer d (length area)).desk;
+          desk = (take_after d (take_answer d (length area))).desk;
           run = run.Fed.takes m.run;
           used = rw (t.desk, low, m.last) (slot_same d 0 (Filling (suc n)) (inside m));
           last = rw t.desk (ap suc m.last);
@@ -106,7 +109,7 @@ module _ (f : ℕ) (format : Format) (ok : format_of f ≡ Is format) (setting :
         let d = m.desk in
         let t = published_it d (length area) 0 i (publish_served f format ok setting small count first-area m.run 0 i m.used) in
         record {
-          desk = (publish_answer d (length area) 0 i).desk;
+          desk = (desk_after d (publish_answer d (length area) 0 i));
           run = run.Fed.publishes 0 i m.run l;
           used = rw t.desk (slot_same d 0 (Held i true true) (inside m));
           last = rw t.desk m.last;
@@ -117,7 +120,7 @@ module _ (f : ℕ) (format : Format) (ok : format_of f ≡ Is format) (setting :
         let d = m.desk in
         let t = released_it d (length area) c 0 i (release_served f format ok setting small count first-area m.run c 0 i (rw m.used h)) in
         record {
-          desk = (release_answer d (length area) c 0 i).desk;
+          desk = (desk_after d (release_answer d (length area) c 0 i));
           run = run.Fed.releases c 0 i m.run;
           used = rw t.desk (slot_same d 0 (let_go c (slot_of d 0)) (inside m) ∙ ap (let_go c) m.used);
           last = rw t.desk m.last;
@@ -154,10 +157,10 @@ module _ (f : ℕ) (format : Format) (ok : format_of f ≡ Is format) (setting :
   }
 
   -- one call
-  step : (fed p : List ℕ) → 0 < length p → (g : Going fed) → length fed + length p < last_serial → (a : Answer) → read_answer f setting g.s p (slot_at 0 g.area) ≡ a
-      → refusal_of a ≡ 0 → 1 ≤ taken_by a → taken_by a ≤ length p → Going (fed ++ take (taken_by a) p)
-  step fed p some g b (Refused n) e z o m = absurd (let y : ⊥ = omega arith in y)
-  step fed p some g b (More t s') e z o m =
+  step : (fed p : List ℕ) → 0 < length p → (g : Going fed) → length fed + length p < last_serial → (a : Result Reading Refusal) → read_answer f setting g.s p (slot_at 0 g.area) ≡ a
+      → answer_number a ≡ 0 → 1 ≤ taken_by a → taken_by a ≤ length p → Going (fed ++ take (taken_by a) p)
+  step fed p some g b (Err n) e z o m = absurd (number_some n z)
+  step fed p some g b (Ok (More t s')) e z o m =
       let w = g.now in
       record {
         k = g.k;
@@ -166,7 +169,7 @@ module _ (f : ℕ) (format : Format) (ok : format_of f ≡ Is format) (setting :
         now = record { desk = w.desk; run = run.Fed.reads 0 p w.run w.used e; used = w.used; last = w.last };
         few = omega (arith, g.few, length-append fed (take t p));
       }
-  step fed p some g b (Line t s') e z o m =
+  step fed p some g b (Ok (Line t s')) e z o m =
       let w = g.now in
       let l : length (fed ++ take t p) ≡ length fed + t = length-append fed (take t p) ∙ ap (λ (x : ℕ). length fed + x) (length-take-le t p m) in
       record {
@@ -187,8 +190,8 @@ module _ (f : ℕ) (format : Format) (ok : format_of f ≡ Is format) (setting :
   more n fed [] l g b rest = ended fed g
   more n fed (y ∷ ys) l g b rest =
       let p : List ℕ = y ∷ ys in
-      let a : Answer = read_answer f setting g.s p (slot_at 0 g.area) in
-      let z : refusal_of a ≡ 0 = read_served f format ok setting small count first-area g.now.run 0 (suc g.k) g.now.used p in
+      let a : Result Reading Refusal = read_answer f setting g.s p (slot_at 0 g.area) in
+      let z : answer_number a ≡ 0 = read_served f format ok setting small count first-area g.now.run 0 (suc g.k) g.now.used p in
       let o : 1 ≤ taken_by a = takes_one f setting g.s p (slot_at 0 g.area) z (zero-lt-suc (length ys)) in
       let m : taken_by a ≤ length p = takes_most f setting g.s p (slot_at 0 g.area) in
       let next = step fed p (zero-lt-suc (length ys)) g b a refl z o m in

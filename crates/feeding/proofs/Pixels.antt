@@ -9,7 +9,7 @@ use lib.Seq.{take-take}
 use Rattle.bits.specs.Bits.{bits_of}
 use Rattle.formats.specs.Formats.{line_bytes, format_of}
 use Rattle.formats.specs.declared.Format.{Format}
-use Rattle.formats.specs.declared.FormatAnswer.TheVariants.{Is}
+use Rattle.std.specs.Prelude.{Ok}
 use Rattle.sector_check.specs.Sector.{pixels_of, joined_pixel}
 use Rattle.sector_table.specs.Layout.{upper_of, lower_of}
 use Rattle.reader_record.specs.declared.State.{State}
@@ -28,7 +28,7 @@ slot_line : (i : ℕ) (area : List ℕ) → line_in (slot_at i area) ≡ bits_of
 unfolding line_in slot_at
 slot_line i area = ap bits_of (take-take line_bytes line_bytes (drop (i * line_bytes) area) (le_refl line_bytes))
 
-pub held_pixels : (f : ℕ) (format : Format) → format_of f ≡ Is format → (setting : ℕ) → setting ≤ largest_setting → (count : ℕ) (first : List ℕ)
+pub held_pixels : (f : ℕ) (format : Format) → format_of f ≡ Ok format → (setting : ℕ) → setting ≤ largest_setting → (count : ℕ) (first : List ℕ)
     {k : ℕ} {s : State} {d : Desk} {area fed : List ℕ} → Fed f setting count first k s d area fed
     → (c i n : ℕ) → held_by c n (slot_of d i) ≡ true → (later : List ℕ) → OneSlot f setting n (fed ++ later) (slot_at i area)
 held_pixels f format ok setting small count first {area = area} r c i n e later = record {

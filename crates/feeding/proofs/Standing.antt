@@ -35,5 +35,5 @@ slot_stands spared.Spared.here = refl
 slot_stands {f} {setting} {j} (spared.Spared.other {s = s} {area = area} i p h l r) = slot_stands r ∙ read_spares f setting s p i j area h l
 slot_stands {f} {setting} {j} (spared.Spared.lent {s = s} {s' = s'} {area = area} {t = t} p l e g r) =
     slot_stands r ∙ left_alone f setting s p j area l (line_stays f setting s p (slot_at j area) t s' e g)
-slot_stands {f} {setting} {j} (spared.Spared.refused {s = s} {area = area} {n = n} p l e r) =
+slot_stands {f} {setting} {j} (spared.Spared.refused {s = s} {area = area} {e = n} p l e r) =
     slot_stands r ∙ left_alone f setting s p j area l (refused_stays f setting s p (slot_at j area) n e)

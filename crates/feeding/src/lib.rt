@@ -18,8 +18,9 @@ ghost use Rattle.reader.specs.Read.{read_answer};
 ghost use Rattle.feeding.specs.Area.{slot_at, area_after};
 
 use formats::Format;
-use reader_line::Answer;
+use reader_line::Reading;
 use reader_record::State;
+use refusals::Refusal;
 
 // Inner. `reader::read` with one slot of the area lent: its answer on the slot's bytes, and the area with what it left there. It asks
 // for a slot inside the area.
@@ -30,7 +31,7 @@ pub fn read_slot(
     piece: &[u8],
     area: &mut [u8],
     slot: usize,
-) -> Answer
+) -> Result<Reading, Refusal>
     requires { slot * 44356 + 44356 ≤ length area.old }
     ensures { (result ≡ read_answer format setting state piece.now (slot_at slot area.old)) × (area.new ≡ area_after format setting state piece.now slot area.old) }
 {

@@ -1,147 +1,85 @@
 // The five blocks, assembled one behind the other in one room of 47,950 bytes.
-use blocks::assembly::{Assembly, Revisions};
-use blocks::marks::Marks;
-use segments::Added;
-use text::Row;
+ghost use Rattle.std.specs.Prelude.{◌≤◌};
 
-// What is kept of a block: the record of its assembly, what it answered to the last segment, 0 or a refusal, and how many lines
-// it refused as of a foreign revision.
-#[derive(Clone, Copy)]
+use crate::ROOM;
+use blocks::assembly::Assembly;
+use blocks::block::{CALIBRATION_1, CALIBRATION_2, MANAM, ORBIT};
+use refusals::Refusal;
+use std::fmt;
+
+/// What is kept of a block: the record of its assembly, what it answered to the last segment, and how many lines it refused as of a
+/// foreign revision.
+#[derive(Clone, Copy, Debug)]
 pub struct Kept {
-    pub marks: u32,
-    pub calibration: u16,
-    pub manam: u16,
-    pub answer: u8,
+    pub assembly: Assembly,
+    pub answer: Result<(), Refusal>,
     pub foreign: u64,
 }
 
-// That of the five, each at its number from 1 to 5; how many lines there were; and whether their rows could be written.
-#[derive(Clone, Copy)]
+/// That of the five, the block of number n at n - 1.
+#[derive(Clone, Copy, Debug)]
 pub struct Five {
-    pub kept: [Kept; 6],
-    pub lines: u64,
-    pub written: bool,
+    pub kept: [Kept; 5],
 }
 
-impl Five {
-    pub fn told(self, written: bool) -> Five {
-        let kept = self.kept;
-        Five {
-            kept: kept,
-            lines: self.lines,
-            written: written,
-        }
-    }
-}
-
-pub fn empty() -> Five {
-    let fresh = Kept {
-        marks: 0,
-        calibration: 0,
-        manam: 0,
-        answer: 0,
-        foreign: 0,
-    };
-    Five {
-        kept: [fresh; 6],
-        lines: 0,
-        written: true,
-    }
-}
-
-// Where the block of a number begins in the room.
-pub fn place_of(number: u8) -> usize {
+/// Where the block of a number begins in the room.
+pub fn place_of(number: u8) -> usize
+    ensures { result ≤ 22350 }
+{
     match number {
-        2 => 2500,
-        3 => 5700,
-        4 => 15950,
-        5 => 22350,
+        ORBIT => 2500,
+        MANAM => 5700,
+        CALIBRATION_1 => 15950,
+        CALIBRATION_2 => 22350,
         _ => 0,
     }
 }
 
-pub fn assembly_of(k: Kept) -> Assembly {
-    Assembly {
-        marks: Marks { segments: k.marks },
-        revisions: Revisions {
-            calibration: k.calibration,
-            manam: k.manam,
-        },
+impl Kept {
+    // A line's segment to the block. The blocks behind it are lent with it: a buffer may be longer than its block.
+    fn add(&mut self, format: u8, plain: &[u8], number: u8, block: &mut [u8]) {
+        match segments::add_segment(format, self.assembly, plain, number, block) {
+            Ok(placed) => {
+                self.assembly = placed.assembly;
+                self.answer = Ok(());
+            }
+            Err(refusal) => {
+                self.answer = Err(refusal);
+                if refusal == Refusal::Revision {
+                    self.foreign = self.foreign.wrapping_add(1);
+                }
+            }
+        }
+    }
+
+    // The number of what it answered, 0 for no refusal.
+    fn number(&self) -> u8 {
+        refusals::number_in(self.answer)
     }
 }
 
-// 1 for the answer to a line of a foreign revision.
-fn foreign(answer: u8) -> u64 {
-    if answer == refusals::REVISION { 1 } else { 0 }
-}
+impl Five {
+    pub fn fresh() -> Five {
+        let fresh = Kept {
+            assembly: blocks::assembly::fresh_assembly(),
+            answer: Ok(()),
+            foreign: 0,
+        };
+        Five { kept: [fresh; 5] }
+    }
 
-fn refused(k: Kept, answer: u8) -> Kept {
-    Kept {
-        marks: k.marks,
-        calibration: k.calibration,
-        manam: k.manam,
-        answer: answer,
-        foreign: k.foreign.wrapping_add(foreign(answer)),
+    /// A line's segment to each of the five.
+    pub fn add(&mut self, format: u8, plain: &[u8], room: &mut [u8; ROOM]) {
+        for (number, kept) in (1..).zip(self.kept.iter_mut()) {
+            kept.add(format, plain, number, &mut room[place_of(number)..]);
+        }
     }
 }
 
-fn taken(a: Assembly, foreign: u64) -> Kept {
-    Kept {
-        marks: a.marks.segments,
-        calibration: a.revisions.calibration,
-        manam: a.revisions.manam,
-        answer: 0,
-        foreign: foreign,
+// What the five answered.
+impl fmt::Display for Five {
+    fn fmt<W: fmt::Write>(&self, f: &mut fmt::Formatter<W>) -> fmt::Result {
+        let [a, b, c, d, e] = self.kept.map(|kept| kept.number());
+        write!(f, "blocks {a} {b} {c} {d} {e}")
     }
-}
-
-fn after(k: Kept, a: Added) -> Kept {
-    match a {
-        Added::Is(placed) => taken(placed.assembly, k.foreign),
-        Added::Refused(answer) => refused(k, answer),
-    }
-}
-
-// A line's segment to one block. The blocks behind it are lent with it: a buffer may be longer than its block.
-fn one(format: u8, k: Kept, plain: &[u8], number: u8, room: &mut [u8]) -> Kept {
-    let from = place_of(number);
-    if room.len() < from {
-        return k;
-    }
-    after(
-        k,
-        segments::add_segment(format, assembly_of(k), plain, number, &mut room[from..]),
-    )
-}
-
-// A line's segment to each of the five.
-pub fn add(format: u8, d: Five, plain: &[u8], room: &mut [u8]) -> Five {
-    let mut kept = d.kept;
-    let mut number: u8 = 1;
-    while number < 6 {
-        let i = number as usize;
-        kept[i] = one(format, kept[i], plain, number, room);
-        number += 1;
-    }
-    Five {
-        kept: kept,
-        lines: d.lines.wrapping_add(1),
-        written: true,
-    }
-}
-
-fn spaced(row: Row, n: u8) -> Row {
-    row.words(b" ").number(n as u64)
-}
-
-// What the five answered, behind a row.
-pub fn answers(row: Row, d: Five) -> Row {
-    let kept = d.kept;
-    let mut all = row.words(b" blocks");
-    let mut i: usize = 1;
-    while i < 6 {
-        all = spaced(all, kept[i].answer);
-        i += 1;
-    }
-    all
 }

@@ -1,104 +1,124 @@
-// What the documentation sector of one line says, put behind a row.
+// What the documentation sector of one line says.
+use crate::said::Said;
 use bcd_dates::dates::DateTime;
-use document::modes::{Mirror, Scan, ScanMode, Scanner};
+use document::modes::{Mirror, ScanMode};
 use document::segments::SubCommutation;
-use document_stamps::dates::Dated;
-use document_stamps::lines::{LineNumbers, Numbered};
-use text::Row;
+use document_stamps::lines::LineNumbers;
+use std::fmt;
 
-// A byte that names nothing.
-fn unnamed(row: Row, b: u8) -> Row {
-    row.words(b"unnamed ").number(b as u64)
+/// What a line says of itself, as a part of a row.
+#[derive(Clone, Copy, Debug)]
+pub struct Fields {
+    mode: Said<Mode>,
+    mirror: Said<Select>,
+    numbers: Said<Numbers>,
+    date: Said<Date>,
+    segment: Said<Segment>,
 }
 
-fn say_mode(row: Row, m: ScanMode) -> Row {
-    match m {
-        ScanMode::Full => row.words(b"full"),
-        ScanMode::Limited => row.words(b"limited"),
-        ScanMode::Single => row.words(b"single"),
-        ScanMode::Unnamed(b) => unnamed(row, b),
+impl Fields {
+    pub fn of(format: u8, line: &[u8]) -> Fields {
+        Fields {
+            mode: Said(document::modes::scan_mode(format, line).map(Mode)),
+            mirror: Said(document::modes::scanner_select(format, line).map(Select)),
+            numbers: Said(document_stamps::lines::line_numbers(format, line).map(Numbers)),
+            date: Said(document_stamps::dates::date(format, line).map(Date)),
+            segment: Said(document::segments::sub_commutation(format, line).map(Segment)),
+        }
     }
 }
 
-fn say_mirror(row: Row, m: Mirror) -> Row {
-    match m {
-        Mirror::OneA => row.words(b"1-A"),
-        Mirror::OneB => row.words(b"1-B"),
-        Mirror::TwoA => row.words(b"2-A"),
-        Mirror::TwoB => row.words(b"2-B"),
-        Mirror::Unnamed(b) => unnamed(row, b),
+impl fmt::Display for Fields {
+    fn fmt<W: fmt::Write>(&self, f: &mut fmt::Formatter<W>) -> fmt::Result {
+        let Fields {
+            mode,
+            mirror,
+            numbers,
+            date,
+            segment,
+        } = self;
+        write!(
+            f,
+            "mode {mode} mirror {mirror} set {numbers} date {date} segment {segment}"
+        )
     }
 }
 
-fn mode(row: Row, format: u8, plain: &[u8]) -> Row {
-    match document::modes::scan_mode(format, plain) {
-        Scan::Is(m) => say_mode(row.words(b" mode "), m),
-        Scan::Refused(k) => row.words(b" mode").refused(k),
+// The types below are those of other crates, with the words that a row has for them.
+#[derive(Clone, Copy, Debug)]
+struct Mode(ScanMode);
+
+impl fmt::Display for Mode {
+    fn fmt<W: fmt::Write>(&self, f: &mut fmt::Formatter<W>) -> fmt::Result {
+        match self.0 {
+            ScanMode::Full => write!(f, "full"),
+            ScanMode::Limited => write!(f, "limited"),
+            ScanMode::Single => write!(f, "single"),
+            ScanMode::Unnamed(byte) => write!(f, "unnamed {byte}"),
+        }
     }
 }
 
-fn mirror(row: Row, format: u8, plain: &[u8]) -> Row {
-    match document::modes::scanner_select(format, plain) {
-        Scanner::Is(m) => say_mirror(row.words(b" mirror "), m),
-        Scanner::Refused(k) => row.words(b" mirror").refused(k),
+#[derive(Clone, Copy, Debug)]
+struct Select(Mirror);
+
+impl fmt::Display for Select {
+    fn fmt<W: fmt::Write>(&self, f: &mut fmt::Formatter<W>) -> fmt::Result {
+        match self.0 {
+            Mirror::OneA => write!(f, "1-A"),
+            Mirror::OneB => write!(f, "1-B"),
+            Mirror::TwoA => write!(f, "2-A"),
+            Mirror::TwoB => write!(f, "2-B"),
+            Mirror::Unnamed(byte) => write!(f, "unnamed {byte}"),
+        }
     }
 }
 
-fn say_numbers(row: Row, n: LineNumbers) -> Row {
-    row.words(b" set ")
-        .number(n.set_line as u64)
-        .words(b" reset ")
-        .number(n.reset_line as u64)
-        .words(b" count ")
-        .number(n.scan_count as u64)
-        .words(b" position ")
-        .signed(n.position)
-}
+#[derive(Clone, Copy, Debug)]
+struct Numbers(LineNumbers);
 
-fn numbers(row: Row, format: u8, plain: &[u8]) -> Row {
-    match document_stamps::lines::line_numbers(format, plain) {
-        Numbered::Is(n) => say_numbers(row, n),
-        Numbered::Refused(k) => row.words(b" set").refused(k),
+impl fmt::Display for Numbers {
+    fn fmt<W: fmt::Write>(&self, f: &mut fmt::Formatter<W>) -> fmt::Result {
+        let LineNumbers {
+            set_line,
+            reset_line,
+            scan_count,
+            position,
+        } = self.0;
+        write!(
+            f,
+            "{set_line} reset {reset_line} count {scan_count} position {position}"
+        )
     }
 }
 
-// Two digits behind a sign that parts them from those before.
-fn two(row: Row, sign: &[u8], n: u8) -> Row {
-    row.words(sign).padded(n as u64, 2)
-}
+#[derive(Clone, Copy, Debug)]
+struct Date(DateTime);
 
-fn say_date(row: Row, d: DateTime) -> Row {
-    let year = row.words(b" date ").padded(d.year as u64, 4);
-    let day = two(two(year, b"-", d.month), b"-", d.day);
-    let time = two(two(two(day, b" ", d.hour), b":", d.minute), b":", d.second);
-    two(time, b".", d.hundredths)
-}
-
-fn date(row: Row, format: u8, plain: &[u8]) -> Row {
-    match document_stamps::dates::date(format, plain) {
-        Dated::Is(d) => say_date(row, d),
-        Dated::Refused(k) => row.words(b" date").refused(k),
+impl fmt::Display for Date {
+    fn fmt<W: fmt::Write>(&self, f: &mut fmt::Formatter<W>) -> fmt::Result {
+        let DateTime {
+            year,
+            month,
+            day,
+            hour,
+            minute,
+            second,
+            hundredths,
+        } = self.0;
+        write!(
+            f,
+            "{year:04}-{month:02}-{day:02} {hour:02}:{minute:02}:{second:02}.{hundredths:02}"
+        )
     }
 }
 
-fn segment(row: Row, format: u8, plain: &[u8]) -> Row {
-    match document::segments::sub_commutation(format, plain) {
-        SubCommutation::Is { segment, repeat } => row
-            .words(b" segment ")
-            .number(segment as u64)
-            .words(b" repeat ")
-            .number(repeat as u64),
-        SubCommutation::Refused(k) => row.words(b" segment").refused(k),
-    }
-}
+#[derive(Clone, Copy, Debug)]
+struct Segment(SubCommutation);
 
-// All of it, for line n.
-pub fn row(format: u8, n: u64, plain: &[u8]) -> Row {
-    let modes = mirror(
-        mode(text::empty().words(b"line ").number(n), format, plain),
-        format,
-        plain,
-    );
-    let dated = date(numbers(modes, format, plain), format, plain);
-    segment(dated, format, plain)
+impl fmt::Display for Segment {
+    fn fmt<W: fmt::Write>(&self, f: &mut fmt::Formatter<W>) -> fmt::Result {
+        let SubCommutation { segment, repeat } = self.0;
+        write!(f, "{segment} repeat {repeat}")
+    }
 }

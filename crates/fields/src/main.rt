@@ -5,18 +5,16 @@
 // functions it is proved that they are safe and end.
 #![tactic(auto)]
 
-ghost use Rattle.std.specs.Prelude.{◌-◌, ◌≤◌};
-ghost use Rattle.player.specs.Places.{Places};
-
 use five::Five;
-use player::Player;
+use line::Fields;
+use text::Stop;
 
 mod blocks_at_end;
 mod five;
 mod line;
-mod say;
+mod said;
 
-const USAGE: [u8; 1174] = *b"usage: fields [-2|-3] [-s K] [FILE]
+const USAGE: &str = "usage: fields [-2|-3] [-s K] [FILE]
 Says what the documentation sectors of a recording hold: of FILE, or of standard input where FILE is - or left out.
   -2     the recording is HiRID, format 2; else it is S-VISSR 2.0, format 1
   -3     it is S-VISSR 2.0 from a card whose check starts from ones, format 3
@@ -36,63 +34,26 @@ const LINE: usize = 44356;
 
 const ROOM: usize = 47950;
 
-// The recording that the words ask for.
-fn opened(rt: &HostRuntime, piece: &mut [u8; player::PIECE]) -> Player
-    ensures { Places result }
-{
-    player::opened(rt, &USAGE, piece)
-}
-
-// Where a line is complete, its segment to the blocks, and its row.
-fn heard(rt: &HostRuntime, p: &Player, d: Five, plain: &[u8; LINE], room: &mut [u8; ROOM]) -> Five {
-    if !p.whole {
-        return d;
+fn say(rt: &HostRuntime) -> Result<(), Stop> {
+    let mut plain = [0; LINE];
+    let mut piece = [0; player::PIECE];
+    let mut room = [0; ROOM];
+    let mut five = Five::fresh();
+    let mut player = player::opened(rt, USAGE, &mut piece)?;
+    for number in 1..u64::MAX {
+        if !player.next(rt, &mut piece, &mut plain)? {
+            player.ended(rt);
+            blocks_at_end::show(rt, player.format, &five, &room)?;
+            println!(rt; "total {}", number - 1)?;
+            break;
+        }
+        five.add(player.format, &plain, &mut room);
+        let fields = Fields::of(player.format, &plain);
+        println!(rt; "line {number} {fields} {five}")?;
     }
-    let all = five::add(p.format, d, plain, room);
-    let row = line::row(p.format, all.lines, plain);
-    all.told(five::answers(row, all).write(rt))
-}
-
-// The turns that are left: none at the recording's end, and none where a row could not be written.
-fn left(p: &Player, d: Five, turns: u64) -> u64
-    ensures { result ≤ turns - 1 }
-{
-    if turns == 0 {
-        return 0;
-    }
-    if !p.more {
-        return 0;
-    }
-    if !d.written {
-        return 0;
-    }
-    turns - 1
-}
-
-// The rows at the end.
-fn ended(rt: &HostRuntime, p: &Player, d: Five, room: &[u8; ROOM]) {
-    if !d.written {
-        return;
-    }
-    if !player::ended(rt, p) {
-        return;
-    }
-    if blocks_at_end::show(rt, p.format, d, room) {
-        text::empty().words(b"total ").number(d.lines).write(rt);
-    }
+    Ok(())
 }
 
 fn main(rt: HostRuntime) {
-    let mut plain = [0u8; LINE];
-    let mut piece = [0u8; player::PIECE];
-    let mut room = [0u8; ROOM];
-    let mut d = five::empty();
-    let mut p = opened(&rt, &mut piece);
-    let mut turns = left(&p, d, u64::MAX);
-    while turns > 0 {
-        p = player::next(&rt, p, &mut piece, &mut plain);
-        d = heard(&rt, &p, d, &plain, &mut room);
-        turns = left(&p, d, turns);
-    }
-    ended(&rt, &p, d, &room);
+    text::end(&rt, say(&rt));
 }

@@ -11,7 +11,7 @@ use lib.ListN.{length, take, drop, replicate}
 use lib.Seq.{drop-drop}
 use Rattle.formats.specs.Formats.{svissr, hirid, svissr_ones, format_of}
 use Rattle.formats.specs.declared.Format.{Format}
-use Rattle.formats.specs.declared.FormatAnswer.TheVariants.{Is}
+use Rattle.std.specs.Prelude.{Ok}
 use Rattle.formats.proofs.Which.{of_each}
 use Rattle.scramble.specs.Sync.{SYNC, tail}
 use Rattle.scramble.specs.Wire.{complemented, scrambled, wire_of}
@@ -91,7 +91,7 @@ unfolding first_searched next_searched
 windows_3 = record { before_first = windows_1.before_first; before_next = windows_1.before_next }
 
 -- EACH EARLIER WINDOW DIFFERS IN AT LEAST NINE PLACES
-pub earlier_apart : (n : ℕ) (f : Format) → format_of n ≡ Is f → Windows f
+pub earlier_apart : (n : ℕ) (f : Format) → format_of n ≡ Ok f → Windows f
 earlier_apart = of_each Windows windows_1 windows_2 windows_3
 
 -- NO EARLIER WINDOW IS THE TAIL
@@ -99,7 +99,7 @@ pub record NotTail (f : Format) : Type 0 where
   pub before_first : (k : ℕ) → k + 64 < f.sync → take 64 (drop k (first_searched f)) ≢ tail
   pub before_next : (k : ℕ) → k + 64 < f.dummy + f.sync → take 64 (drop k (next_searched f)) ≢ tail
 
-pub earlier_not_tail : (n : ℕ) (f : Format) → format_of n ≡ Is f → NotTail f
+pub earlier_not_tail : (n : ℕ) (f : Format) → format_of n ≡ Ok f → NotTail f
 earlier_not_tail n f e =
     let w = earlier_apart n f e in
     record {

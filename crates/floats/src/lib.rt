@@ -7,18 +7,12 @@
 #![tactic(auto)]
 
 ghost use Rattle.std.specs.Prelude.{◌≡◌, ◌^◌, ◌<◌};
-ghost use Rattle.floats.specs.Floats.{Fits, FitsIn, value_of, as_float, ReadF64Ok};
+ghost use Rattle.floats.specs.Floats.{Fits, value_of, ReadF64Ok};
 
-use numbers::{R, Real, read_real};
+use numbers::{R, read_real};
+use refusals::Refusal;
 
-// The answer to R*n.m in f64.
-#[derive(Clone, Copy)]
-pub enum Float {
-    Is(f64),
-    Refused(u8),
-}
-
-// The powers of ten 0 to 15, the divisors of R numbers.
+// The powers of ten 0 to 15, the divisors of R numbers; listed, so that the edit power_wrong can put one entry wrong.
 const POWERS: [u64; 16] = [
     1,
     10,
@@ -48,6 +42,7 @@ fn power(m: u8) -> u64
 
 // Inner. An R number in f64: one division of two whole numbers that f64 holds exactly, so one rounding; sign last, on a zero
 // too.
+#[tactic(auto, unfolding(crate::specs::Floats::value_of))]
 pub fn value(r: R) -> f64
     requires { Fits r }
     ensures { result ≡ value_of r }
@@ -58,20 +53,10 @@ pub fn value(r: R) -> f64
     if r.negative { -q } else { q }
 }
 
-// Inner. An answer in f64; a refusal stays the refusal that it is.
-pub fn as_float(r: Real) -> Float
-    requires { FitsIn r }
-    ensures { result ≡ as_float r }
-{
-    match r {
-        Real::Is(x) => Float::Is(value(x)),
-        Real::Refused(k) => Float::Refused(k),
-    }
-}
-
 // R*n.m in f64, refused as `read_real` refuses.
-pub fn read_f64(bytes: &[u8], n: usize, m: u8) -> Float
+#[tactic(auto, using(refusals::proofs::Numbers::answers_err, crate::proofs::Fitting::read_fits, crate::proofs::Fitting::float_answers))]
+pub fn read_f64(bytes: &[u8], n: usize, m: u8) -> Result<f64, Refusal>
     ensures { ReadF64Ok n m bytes.now result }
 {
-    as_float(read_real(bytes, n, m))
+    Ok(value(read_real(bytes, n, m)?))
 }

@@ -1,10 +1,9 @@
 -- The formats as the papers have them, with the lengths of one line on the wire and the start value of the check, and the format of
 -- a number. Assumes nothing.
-use Rattle.std.specs.Prelude.{ℕ, ◌+◌, ◌*◌, Bool, cond, not, ◌&&◌, ◌≡◌, refl, eqb}
-use Rattle.refusals.specs.Refusals.{when, Genuine}
+use Rattle.std.specs.Prelude.{ℕ, ◌+◌, ◌*◌, Bool, cond, not, ◌&&◌, ◌≡◌, refl, eqb, Result, Ok}
+use Rattle.refusals.specs.Refusals.{when, refuses, answer_number, answer_value}
+use Rattle.refusals.specs.declared.Refusal.{Refusal}
 use Rattle.formats.specs.declared.Format.{Format}
-use Rattle.formats.specs.declared.FormatAnswer.{FormatAnswer}
-use Rattle.formats.specs.declared.FormatAnswer.TheVariants.{Is, Refused}
 
 -- the bits of the plain line, and its bytes
 abbrev pub information_bits : ℕ
@@ -26,8 +25,8 @@ abbrev pub svissr_ones : Format
 svissr_ones = record { number = 3; sync = svissr.sync; information = svissr.information; dummy = svissr.dummy; bytes = svissr.bytes; check_start = 0xffff }
 
 -- the format of a number; 1 refuses every other
-abbrev pub format_of : ℕ → FormatAnswer
-format_of n = cond (eqb n 1) (Is svissr) (cond (eqb n 2) (Is hirid) (cond (eqb n 3) (Is svissr_ones) (Refused 1)))
+abbrev pub format_of : ℕ → Result Format Refusal
+format_of n = cond (eqb n 1) (Ok svissr) (cond (eqb n 2) (Ok hirid) (cond (eqb n 3) (Ok svissr_ones) (refuses 1)))
 
 -- the number names none
 unfoldable pub unknown : ℕ → Bool
@@ -44,18 +43,9 @@ no_format = record { number = 0; sync = 0; information = 0; dummy = 0; bytes = 0
 unfoldable pub named_by : ℕ → Format
 named_by n = cond (eqb n 1) svissr (cond (eqb n 2) hirid (cond (eqb n 3) svissr_ones no_format))
 
--- the paper's number and values for each answer to a format number
-abbrev pub format_number : FormatAnswer → ℕ
-format_number (Is f) = 0
-format_number (Refused n) = n
-
-abbrev pub format_in : FormatAnswer → Format
-format_in (Is f) = f
-format_in (Refused n) = no_format
-
--- THE CONTRACT of `Format::of`
-abbrev pub FormatOk : ℕ → FormatAnswer → Type 0
-FormatOk n r = (format_number r ≡ format_refusal n) × (format_in r ≡ named_by n) × Genuine Refused r
+-- THE CONTRACT of `Format::of`: the number, and the format
+abbrev pub FormatOk : ℕ → Result Format Refusal → Type 0
+FormatOk n r = (answer_number r ≡ format_refusal n) × (answer_value no_format r ≡ named_by n)
 
 -- the start value of the check: that of the format
 unfoldable pub check_start : ℕ → ℕ

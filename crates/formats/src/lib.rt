@@ -5,11 +5,14 @@
 #![tactic(auto)]
 
 ghost use Rattle.std.specs.Prelude.{◌≡◌};
+ghost use Rattle.refusals.specs.Refusals.{answer_number};
 ghost use Rattle.formats.specs.Formats.{svissr, hirid, svissr_ones, format_refusal, check_start, FormatOk};
+
+use refusals::Refusal;
 
 // A format: its number, the bits of the three parts of one line on the wire, the bytes of them all, and the start value of
 // the check of its sectors.
-#[derive(Clone, Copy)]
+#[derive(Clone, Copy, Debug, PartialEq, Eq)]
 pub struct Format {
     pub number: u8,
     pub sync: usize,
@@ -17,13 +20,6 @@ pub struct Format {
     pub dummy: usize,
     pub bytes: usize,
     pub check_start: u16,
-}
-
-// The answer to a format number.
-#[derive(Clone, Copy)]
-pub enum FormatAnswer {
-    Is(Format),
-    Refused(u8),
 }
 
 impl Format {
@@ -105,26 +101,24 @@ impl Format {
     }
 
     // The format of a number; refused with 1 where the number is none of 1, 2, 3.
-    pub fn of(number: u8) -> FormatAnswer
+    pub fn of(number: u8) -> Result<Self, Refusal>
         ensures { FormatOk number result }
     {
         match number {
-            1 => FormatAnswer::Is(Format::svissr()),
-            2 => FormatAnswer::Is(Format::hirid()),
-            3 => FormatAnswer::Is(Format::svissr_ones()),
-            _ => FormatAnswer::Refused(refusals::FORMAT),
+            1 => Ok(Self::svissr()),
+            2 => Ok(Self::hirid()),
+            3 => Ok(Self::svissr_ones()),
+            _ => Err(Refusal::Format),
         }
     }
 }
 
-// Inner. 1 where the format is none of 1, 2, 3; else 0.
-pub fn format_refusal(format: u8) -> u8
-    ensures { result ≡ format_refusal format }
+// Inner. Refuses, with 1, where the format is none of 1, 2, 3.
+pub fn format_refusal(format: u8) -> Result<(), Refusal>
+    ensures { answer_number result ≡ format_refusal format }
 {
-    match Format::of(format) {
-        FormatAnswer::Is(_) => 0,
-        FormatAnswer::Refused(n) => n,
-    }
+    Format::of(format)?;
+    Ok(())
 }
 
 // Inner. The start value of the check in a format; 0 where the number names none.
@@ -132,7 +126,7 @@ pub fn check_start(format: u8) -> u16
     ensures { result ≡ check_start format }
 {
     match Format::of(format) {
-        FormatAnswer::Is(f) => f.check_start,
-        FormatAnswer::Refused(_) => 0,
+        Ok(named) => named.check_start,
+        Err(_) => 0,
     }
 }

@@ -12,7 +12,7 @@ use octets::integer_at;
 
 // A point of the grid: the image line and pixel at a latitude in degrees north and a longitude in degrees east. South and west
 // are below 0.
-#[derive(Clone, Copy)]
+#[derive(Clone, Copy, Debug, PartialEq, Eq)]
 pub struct Grid {
     pub line: u16,
     pub pixel: u16,

@@ -4,7 +4,8 @@ ghost use Rattle.numbers.specs.Integers.{read_integer_answer};
 ghost use Rattle.numbers.specs.Decimals.{read_bcd_answer};
 ghost use Rattle.numbers.specs.Reals.{read_real_answer};
 ghost use Rattle.floats.specs.Floats.{read_f64_answer};
-ghost use Rattle.number_writer.specs.Written.{put_number, put_real_answer, put_real_left};
+ghost use Rattle.refusals.specs.Refusals.{answer_number};
+ghost use Rattle.number_writer.specs.Written.{put_real_answer, put_real_left};
 ghost use Rattle.rack_number.specs.Number.{integer_given, bcd_given, real_given, float_given};
 
 use rack_number::{BcdAnswer, FloatAnswer, IntegerAnswer, RealAnswer};
@@ -45,7 +46,7 @@ pub extern "C" fn hansobrik_put_real(
     m: u8,
     out: &mut [u8],
 ) -> u8
-    ensures { (result ≡ put_number (put_real_answer magnitude n m (length out.old))) × (out.new ≡ put_real_left negative magnitude n m out.old) }
+    ensures { (result ≡ answer_number (put_real_answer magnitude n m (length out.old))) × (out.new ≡ put_real_left negative magnitude n m out.old) }
 {
     rack_number::hansobrik_put_real(negative, magnitude, n, m, out)
 }

@@ -4,7 +4,7 @@ use mathlib.Core.Path.{◌≡◌, refl, ◌∙◌}
 use Prim.Native.Nat.{ℕ, ◌*◌, ◌≤◌, ◌<◌}
 use borrow.Author.Tests.{lt-leb, le-ltb, eq-eqb}
 use Rattle.formats.specs.Formats.{line_bytes}
-use Rattle.refusals.specs.Refusals.{first, when, short_of}
+use Rattle.refusals.specs.Refusals.{first, when, short_of, answer_number}
 use Rattle.refusals.proofs.Words.{within}
 use Rattle.desk_record.specs.declared.Use.TheVariants.{Filling}
 use Rattle.desk_record.specs.declared.Desk.{Desk}
@@ -35,14 +35,14 @@ module _ (d : Desk) (area : ℕ) (s : Sound d area) where
   slot_zero i l = rw (count_zero, lt-leb d.count i l) refl
 
   -- A TAKE is refused with 18 or 16 only
-  pub take_answers : (take_answer d area).refused ≡ none_refusal d
+  pub take_answers : answer_number (take_answer d area) ≡ none_refusal d
   unfolding take_refusal first
   take_answers = take_number d area ∙ rw (count_zero, rest_zero) refl
 
-  pub publish_accepts : (i n : ℕ) → i < d.count → slot_of d i ≡ Filling n → (publish_answer d area i n).refused ≡ 0
+  pub publish_accepts : (i n : ℕ) → i < d.count → slot_of d i ≡ Filling n → answer_number (publish_answer d area i n) ≡ 0
   unfolding publish_refusal first when
   publish_accepts i n l e = publish_number d area i n ∙ rw (slot_zero i l, rest_zero, e, eq-eqb n n refl) refl
 
-  pub release_accepts : (c i n : ℕ) → i < d.count → held_by c n (slot_of d i) ≡ true → (release_answer d area c i n).refused ≡ 0
+  pub release_accepts : (c i n : ℕ) → i < d.count → held_by c n (slot_of d i) ≡ true → answer_number (release_answer d area c i n) ≡ 0
   unfolding release_refusal first when
   release_accepts c i n l e = release_number d area c i n ∙ rw (slot_zero i l, rest_zero, e) refl

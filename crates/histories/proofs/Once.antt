@@ -7,6 +7,7 @@ use native.Mathlib.Omega.{arith}
 use borrow.Author.Tests.{eqb-true, eqb-false, eq-eqb, ne_eqb}
 use lib.Dec.{eqb}
 use lib.ListN.{length}
+use Rattle.refusals.specs.Refusals.{answer_number}
 use Rattle.desk_record.specs.declared.Use.{Use}
 use Rattle.desk_record.specs.declared.Use.TheVariants.{Free, Filling, Held}
 use Rattle.desk_record.specs.declared.Desk.{Desk}
@@ -155,7 +156,7 @@ fresh_release d log area c i n l h s f = record { above = λ b j m g. rw (ne_eqb
         rw (ne_eqb i j (λ z. eqb-false j i k (sym z)), not_there (eqb c b) (eqb n m)) (h.unreleased b j m (rw (slot_other d i j u (eqb-false j i k)) at e))
 
 pub released_once : {count : ℕ} {d : Desk} {log : List Done} → History count d log → (c i n : ℕ) → is_released c i n log ≡ true
-    → (area : ℕ) → (release_answer d area c i n).refused ≡ 0 → ⊥
+    → (area : ℕ) → answer_number (release_answer d area c i n) ≡ 0 → ⊥
 released_once {count} {d} {log} h c i n e area a =
     let w = always count Fresh (fresh_empty count) fresh_take fresh_publish fresh_release h in
     let r = released_it d area c i n a in

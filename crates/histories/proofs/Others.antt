@@ -7,12 +7,13 @@ use native.Mathlib.Omega.{arith}
 use borrow.Author.Tests.{eqb-true, eqb-false, ne_eqb}
 use lib.Dec.{eqb}
 use lib.ListN.{length}
+use Rattle.refusals.specs.Refusals.{answer_number}
 use Rattle.desk_record.specs.declared.Use.{Use}
 use Rattle.desk_record.specs.declared.Use.TheVariants.{Free, Filling, Held}
 use Rattle.desk_record.specs.declared.Desk.{Desk}
 use Rattle.desk_record.specs.Slots.{slot_of, of_both, held_by, held_or, let_go}
 use Rattle.desk_record.specs.Desks.{with_slot}
-use Rattle.desk.specs.Calls.{release_answer}
+use Rattle.desk.specs.Calls.{release_answer, desk_after}
 use Rattle.histories.proofs.Past.{and_true}
 use Rattle.histories.proofs.Steps.{slot_same, slot_other, release_kept, released_it}
 
@@ -45,8 +46,8 @@ others_hold b c n (Held m p q) h = go (eqb b 1) refl (eqb b 2) refl
 
 -- in every slot, accepted or refused
 pub release_leaves : (d : Desk) (area c i n : ℕ) → length d.slots ≡ 8 → (b j m : ℕ) → (b ≡ c → ⊥)
-    → held_by b m (slot_of (release_answer d area c i n).desk j) ≡ held_by b m (slot_of d j)
-release_leaves d area c i n l b j m h = by (eqb (release_answer d area c i n).refused 0) refl
+    → held_by b m (slot_of (desk_after d (release_answer d area c i n)) j) ≡ held_by b m (slot_of d j)
+release_leaves d area c i n l b j m h = by (eqb (answer_number (release_answer d area c i n)) 0) refl
   where
     at : i < length d.slots → (t : Bool) → eqb i j ≡ t → held_by b m (slot_of (with_slot d i (let_go c (slot_of d i))) j) ≡ held_by b m (slot_of d j)
     at w true e =
@@ -54,8 +55,8 @@ release_leaves d area c i n l b j m h = by (eqb (release_answer d area c i n).re
         rw (sym z) (ap (held_by b m) (slot_same d i (let_go c (slot_of d i)) w) ∙ others_hold b c m (slot_of d i) h)
     at w false e = ap (held_by b m) (slot_other d i j (let_go c (slot_of d i)) (λ z. eqb-false i j e (sym z)))
 
-    by : (t : Bool) → eqb (release_answer d area c i n).refused 0 ≡ t → held_by b m (slot_of (release_answer d area c i n).desk j) ≡ held_by b m (slot_of d j)
+    by : (t : Bool) → eqb (answer_number (release_answer d area c i n)) 0 ≡ t → held_by b m (slot_of (desk_after d (release_answer d area c i n)) j) ≡ held_by b m (slot_of d j)
     by true e =
-        let r = released_it d area c i n (eqb-true (release_answer d area c i n).refused 0 e) in
+        let r = released_it d area c i n (eqb-true (answer_number (release_answer d area c i n)) 0 e) in
         rw r.desk (at (omega (arith, r.served.below, r.served.counts.most)) (eqb i j) refl)
-    by false e = rw (release_kept d area c i n (eqb-false (release_answer d area c i n).refused 0 e)) refl
+    by false e = rw (release_kept d area c i n (eqb-false (answer_number (release_answer d area c i n)) 0 e)) refl

@@ -2,12 +2,13 @@
 -- says of a slot. Assumes nothing.
 use Rattle.std.specs.Prelude.{Bool, true, false, cond, ◌&&◌, ◌||◌, not, List, [], ◌∷◌, ◌≡◌, ℕ, zero, suc, ◌+◌, eqb}
 use Rattle.std.proofs.Math.Option.{Option, none, some}
+use Rattle.refusals.specs.Refusals.{answer_number}
 use Rattle.desk_record.specs.declared.Use.{Use}
 use Rattle.desk_record.specs.declared.Use.TheVariants.{Free, Filling, Held}
 use Rattle.desk_record.specs.declared.Desk.{Desk}
 use Rattle.desk_record.specs.Slots.{held_or}
 use Rattle.desk_record.specs.Desks.{empty_desk}
-use Rattle.desk.specs.Calls.{take_answer, publish_answer, release_answer}
+use Rattle.desk.specs.Calls.{take_answer, publish_answer, release_answer, desk_after, take_after}
 
 -- an accepted call
 pub data Done : Type 0 where
@@ -18,19 +19,19 @@ pub data Done : Type 0 where
 -- the desks after any calls, with what was accepted; the length of the area may be another in every call
 pub data History (count : ℕ) : Desk → List Done → Type 0 where
   start : History count (empty_desk count) []
-  takes : {d : Desk} {log : List Done} (area : ℕ) → History count d log → (take_answer d area).refused ≡ 0
-      → History count (take_answer d area).desk (took (take_answer d area).slot (take_answer d area).serial ∷ log)
-  publishes : {d : Desk} {log : List Done} (area i n : ℕ) → History count d log → (publish_answer d area i n).refused ≡ 0
-      → History count (publish_answer d area i n).desk (published i n ∷ log)
-  releases : {d : Desk} {log : List Done} (area c i n : ℕ) → History count d log → (release_answer d area c i n).refused ≡ 0
-      → History count (release_answer d area c i n).desk (released c i n ∷ log)
+  takes : {d : Desk} {log : List Done} (area : ℕ) → History count d log → answer_number (take_answer d area) ≡ 0
+      → History count (take_after d (take_answer d area)).desk (took (take_after d (take_answer d area)).slot (take_after d (take_answer d area)).serial ∷ log)
+  publishes : {d : Desk} {log : List Done} (area i n : ℕ) → History count d log → answer_number (publish_answer d area i n) ≡ 0
+      → History count (desk_after d (publish_answer d area i n)) (published i n ∷ log)
+  releases : {d : Desk} {log : List Done} (area c i n : ℕ) → History count d log → answer_number (release_answer d area c i n) ≡ 0
+      → History count (desk_after d (release_answer d area c i n)) (released c i n ∷ log)
   -- a refused call
-  no_take : {d : Desk} {log : List Done} (area : ℕ) → History count d log → ((take_answer d area).refused ≡ 0 → ⊥)
-      → History count (take_answer d area).desk log
-  no_publish : {d : Desk} {log : List Done} (area i n : ℕ) → History count d log → ((publish_answer d area i n).refused ≡ 0 → ⊥)
-      → History count (publish_answer d area i n).desk log
-  no_release : {d : Desk} {log : List Done} (area c i n : ℕ) → History count d log → ((release_answer d area c i n).refused ≡ 0 → ⊥)
-      → History count (release_answer d area c i n).desk log
+  no_take : {d : Desk} {log : List Done} (area : ℕ) → History count d log → (answer_number (take_answer d area) ≡ 0 → ⊥)
+      → History count (take_after d (take_answer d area)).desk log
+  no_publish : {d : Desk} {log : List Done} (area i n : ℕ) → History count d log → (answer_number (publish_answer d area i n) ≡ 0 → ⊥)
+      → History count (desk_after d (publish_answer d area i n)) log
+  no_release : {d : Desk} {log : List Done} (area c i n : ℕ) → History count d log → (answer_number (release_answer d area c i n) ≡ 0 → ⊥)
+      → History count (desk_after d (release_answer d area c i n)) log
 
 -- the serial number of the last take of slot i; and what was accepted since
 unfoldable pub last_take : ℕ → List Done → Option ℕ

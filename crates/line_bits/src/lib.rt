@@ -21,8 +21,8 @@ fn low(byte: u8, n: u8) -> u8
 }
 
 // Inner. What reading a line gives: complete, with the bytes taken and the unread bits of the last; or in part, with all
-// bytes taken.
-#[derive(Clone, Copy)]
+// bytes taken. Both carry values and neither is an error: so no Option, and no Result.
+#[derive(Clone, Copy, Debug, PartialEq, Eq)]
 pub enum Filled {
     Whole {
         taken: usize,
@@ -59,7 +59,9 @@ pub fn fill(
     let mut place = begun.place;
     let mut register = begun.register;
     let mut waiting = waiting0;
+    // no `for` over the piece: `whole_bytes` takes many of its bytes in the middle of one
     loop {
+        // counted down by hand: what is left of a byte is part of the answer, and is put back to eight at each byte that is read
         while left > 0 {
             left -= 1;
             let b = (byte >> left) & 1;
@@ -71,7 +73,7 @@ pub fn fill(
                 if place == Format::INFORMATION_BITS - 1 {
                     return Filled::Whole {
                         taken: at,
-                        left: left,
+                        left,
                         bits: low(byte, left),
                     };
                 }
@@ -89,9 +91,9 @@ pub fn fill(
         }
         if at == piece.len() {
             return Filled::Part {
-                place: place,
-                register: register,
-                waiting: waiting,
+                place,
+                register,
+                waiting,
             };
         }
         byte = piece[at];

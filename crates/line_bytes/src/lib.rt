@@ -33,16 +33,15 @@ fn copy_across(
     ensures { Copied piece.now at left byte0 n first line.old line.new }
 {
     line[first] = across(left, byte0, piece[at]);
-    let mut i: usize = 1;
-    while i < n {
+    for i in 1..n {
         let here = at + i;
         line[first + i] = across(left, piece[here - 1], piece[here]);
-        i += 1;
     }
 }
 
 // How many whole bytes of the line can go at once, of a piece with so many bytes more: as many as it has, but for the line's last byte,
 // and none where bits wait or a whole byte is unread.
+#[tactic(auto, using(crate::proofs::Spanning::whole_none, crate::proofs::Spanning::whole_some))]
 fn whole(bytes: usize, left: u8, place: usize) -> usize
     requires { place < 354848 }
     ensures { Whole bytes left place result }
@@ -54,7 +53,7 @@ fn whole(bytes: usize, left: u8, place: usize) -> usize
         return 0;
     }
     let rest = (Format::INFORMATION_BITS - 1 - place) / 8;
-    if bytes < rest { bytes } else { rest }
+    usize::min(bytes, rest)
 }
 
 // Inner. How far whole bytes of a line went: the bytes of the piece taken, the last of them, of which as many low bits are
@@ -85,19 +84,17 @@ pub fn whole_bytes(
         return Span {
             taken: at,
             byte: byte0,
-            place: place,
+            place,
             register: register0,
         };
     }
     copy_across(piece, at, left, byte0, n, line, place / 8);
     let after = wire_bits::mix_bytes(line, place / 8, n, place, Register { bits: register0 });
     let taken = at + n;
-    let byte = piece[taken - 1];
-    let next = place + n * 8;
     Span {
-        taken: taken,
-        byte: byte,
-        place: next,
+        taken,
+        byte: piece[taken - 1],
+        place: place + n * 8,
         register: after.bits,
     }
 }

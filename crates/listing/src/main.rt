@@ -4,11 +4,9 @@
 // of `reader` and `sectors`; of its own functions it is proved that they are safe and end.
 #![tactic(auto)]
 
-ghost use Rattle.std.specs.Prelude.{◌≤◌};
+use text::Stop;
 
-use sectors::check::Counted;
-
-const USAGE: [u8; 602] = *b"usage: listing [-2|-3] [-s K] [FILE]
+const USAGE: &str = "usage: listing [-2|-3] [-s K] [FILE]
 Lists the lines of a recording: of FILE, or of standard input where FILE is - or left out.
   -2     the recording is HiRID, format 2; else it is S-VISSR 2.0, format 1
   -3     it is S-VISSR 2.0 from a card whose check starts from ones, format 3
@@ -20,55 +18,30 @@ and at the end, where all of the recording was read
   total N
 ";
 
-// The filler bits set in a sector.
-fn filler(format: u8, line: &[u8], sector: u8) -> u64
-    ensures { result ≤ 2048 }
-{
-    match sectors::check::filler(format, line, sector) {
-        Counted::Refused(_) => 0,
-        Counted::Set(n) => {
-            if n <= 2048 {
-                return n as u64;
-            }
-            2048
-        }
-    }
+// The filler bits set in all twelve sectors.
+fn fillers(format: u8, line: &[u8]) -> usize {
+    (1..=12).fold(0, |sum: usize, sector| {
+        sum.wrapping_add(sectors::check::filler(format, line, sector).unwrap_or(0))
+    })
 }
 
-// The row of a line.
-fn row(format: u8, number: u64, line: &[u8]) -> text::Row {
-    let mut fillers: u64 = 0;
-    let mut sector: u8 = 1;
-    while sector <= 12 {
-        fillers = fillers.wrapping_add(filler(format, line, sector));
-        sector += 1;
+fn list(rt: &HostRuntime) -> Result<(), Stop> {
+    let mut line = [0; 44356];
+    let mut piece = [0; player::PIECE];
+    let mut player = player::opened(rt, USAGE, &mut piece)?;
+    for number in 1..u64::MAX {
+        if !player.next(rt, &mut piece, &mut line)? {
+            player.ended(rt);
+            println!(rt; "total {}", number - 1)?;
+            break;
+        }
+        let good = looks::goods(player.format, &line);
+        let filler = fillers(player.format, &line);
+        println!(rt; "line {number} good {good} filler {filler}")?;
     }
-    text::empty()
-        .words(b"line ")
-        .number(number)
-        .words(b" good ")
-        .number(looks::goods(format, line))
-        .words(b" filler ")
-        .number(fillers)
+    Ok(())
 }
 
 fn main(rt: HostRuntime) {
-    let mut line = [0u8; 44356];
-    let mut piece = [0u8; player::PIECE];
-    let mut p = player::opened(&rt, &USAGE, &mut piece);
-    let mut lines: u64 = 0;
-    let mut turns = u64::MAX;
-    while turns > 0 && p.more {
-        turns -= 1;
-        p = player::next(&rt, p, &mut piece, &mut line);
-        if p.whole {
-            lines = lines.wrapping_add(1);
-            if !row(p.format, lines, &line).write(&rt) {
-                return;
-            }
-        }
-    }
-    if player::ended(&rt, &p) {
-        text::empty().words(b"total ").number(lines).write(&rt);
-    }
+    text::end(&rt, list(&rt));
 }

@@ -3,71 +3,50 @@
 // What a sector and a pixel are is proved of `sectors` and `channels`; of these functions it is proved that they are safe and end.
 #![tactic(auto)]
 
-ghost use Rattle.std.specs.Prelude.{◌≤◌};
+use refusals::Refusal;
+use std::fmt;
 
-use text::Row;
-
-// 1 for the answer of a sector that is accepted.
-fn good(answer: u8) -> u64
-    ensures { result ≤ 1 }
-{
-    if answer == 0 { 1 } else { 0 }
-}
-
-// How many of the twelve sectors are accepted, each divided once.
-pub fn goods(format: u8, line: &[u8]) -> u64 {
-    let twelve = sectors::check::answers(format, line);
-    if twelve.refused != 0 {
-        return 0;
+/// How many of the twelve sectors are accepted, each divided once.
+pub fn goods(format: u8, line: &[u8]) -> usize {
+    match sectors::check::answers(format, line) {
+        Ok(answers) => answers.iter().filter(|answer| answer.is_ok()).count(),
+        Err(_) => 0,
     }
-    let answers = twelve.answers;
-    let mut n: u64 = 0;
-    let mut i: usize = 0;
-    while i < 12 {
-        n = n.wrapping_add(good(answers[i]));
-        i += 1;
+}
+
+/// What is seen of a line: how many sectors are accepted, and the sum of its IR1 pixels, or what refuses them.
+#[derive(Clone, Copy, Debug, PartialEq, Eq)]
+pub struct Look {
+    pub good: usize,
+    pub sum: Result<u64, Refusal>,
+}
+
+impl Look {
+    pub fn of(format: u8, line: &[u8]) -> Look {
+        Look {
+            good: goods(format, line),
+            sum: sum(format, line),
+        }
     }
-    n
 }
 
-// A pixel as a number to be added.
-fn wide(pixel: u16) -> u64 {
-    pixel as u64
-}
-
-// The sum of some pixels.
-fn sum(pixels: &[u16]) -> u64 {
-    let mut n: u64 = 0;
-    let mut i: usize = 0;
-    while i < pixels.len() {
-        n = n.wrapping_add(wide(pixels[i]));
-        i += 1;
-    }
-    n
-}
-
-// The sum of IR1 behind a row, or the number with which it is refused.
-fn summed(row: Row, format: u8, line: &[u8]) -> Row {
+// The sum of the IR1 pixels.
+fn sum(format: u8, line: &[u8]) -> Result<u64, Refusal> {
     let mut pixels = [0u16; 2291];
-    let refused = channels::join::joined(format, line, 1, &mut pixels);
-    if refused != 0 {
-        return row.words(b" sum").refused(refused);
-    }
-    row.words(b" sum ").number(sum(&pixels))
+    channels::join::joined(format, line, 1, &mut pixels)?;
+    Ok(
+        pixels
+            .iter()
+            .fold(0, |sum: u64, pixel| sum.wrapping_add(u64::from(*pixel))),
+    )
 }
 
-// The part of the area that the desk points to, behind a row.
-pub fn shown(row: Row, format: u8, area: &[u8], from: usize, to: usize) -> Row {
-    if area.len() < to {
-        return row;
+impl fmt::Display for Look {
+    fn fmt<W: fmt::Write>(&self, f: &mut fmt::Formatter<W>) -> fmt::Result {
+        let good = self.good;
+        match self.sum {
+            Ok(sum) => write!(f, "good {good} sum {sum}"),
+            Err(refusal) => write!(f, "good {good} sum {refusal}"),
+        }
     }
-    if to < from {
-        return row;
-    }
-    let line = &area[from..to];
-    summed(
-        row.words(b" good ").number(goods(format, line)),
-        format,
-        line,
-    )
 }

@@ -3,7 +3,7 @@
 use mathlib.Core.Path.{◌≡◌, refl, sym, ap, ap₂, ◌∙◌}
 use mathlib.Core.Bool.{Bool, true, false}
 use mathlib.Core.List.{List, [], ◌∷◌, ◌++◌, append-nil}
-use Prim.Native.Nat.{ℕ, zero, suc, ◌+◌, ◌*◌, ◌≤◌, ◌<◌}
+use Prim.Native.Nat.{ℕ, zero, suc, ◌*◌, ◌≤◌, ◌<◌}
 use native.Mathlib.Omega.{arith}
 use lib.Dec.{eqb}
 use lib.ListN.{length, get_or, take, drop, length-append, take-append-drop}
@@ -14,8 +14,7 @@ use Rattle.bits.proofs.Digits.{length_digits, digits_below, digits_number}
 use Rattle.bits.proofs.Bytes.{length_bits, bits_below, bits_append, bits_take, length_part, part_below}
 use Rattle.bits.proofs.Fields.{length_fields, fields_packed, packed_fields}
 use Rattle.numbers.specs.declared.R.{R}
-use Rattle.numbers.specs.declared.Real.TheVariants.{Is}
-use Rattle.number_writer.specs.declared.Put.TheVariants.{Done}
+use Rattle.std.specs.Prelude.{Ok}
 use Rattle.numbers.specs.Reals.{sign_bit, magnitude_bits, real_in, read_real_answer}
 use Rattle.number_writer.specs.Written.{real_bytes, put_real_refusal, put_real_answer, put_real_left}
 use Rattle.numbers.proofs.Ranges.{real_form}
@@ -43,8 +42,8 @@ length_written s magnitude n = length_fields 8 n (sign_bit s ∷ digits (magnitu
 
 -- ---- read after write
 
-pub read_written : (s : Bool) (magnitude n m : ℕ) (out : List ℕ) → put_real_answer magnitude n m (length out) ≡ Done
-    → read_real_answer n m (put_real_left s magnitude n m out) ≡ Is (record { negative = s; magnitude = magnitude; places = m })
+pub read_written : (s : Bool) (magnitude n m : ℕ) (out : List ℕ) → put_real_answer magnitude n m (length out) ≡ Ok tt
+    → read_real_answer n m (put_real_left s magnitude n m out) ≡ Ok (record { negative = s; magnitude = magnitude; places = m })
 read_written s magnitude n m out done =
     let passed : put_real_refusal magnitude n m (length out) ≡ 0 = put_only_if magnitude n m (length out) done in
     let p = put_passed magnitude n m (length out) passed in
@@ -56,7 +55,7 @@ read_written s magnitude n m out done =
     let long : n ≤ length (w ++ drop n out) = omega (arith, length-append w (drop n out), length_written s magnitude n) in
     ap (read_real_answer n m) (written_done s magnitude n m out passed)
     ∙ real_if n m (w ++ drop n out) p.0 long
-    ∙ ap Is (real_bits s magnitude n m (w ++ drop n out) (bits_of (drop n out)) p.1 bits)
+    ∙ ap Ok (real_bits s magnitude n m (w ++ drop n out) (bits_of (drop n out)) p.1 bits)
 
 -- ---- write after read
 
@@ -87,8 +86,8 @@ bytes_again n m bytes b one h =
     ap₂ (fields_of 8) (sym l) bits ∙ fields_packed 8 (take n bytes) [] (below_take 256 n bytes b)
 
 -- what was read, written into any output that has room: it answers that it is done, and the n bytes stand there again
-pub written_read : (n m : ℕ) (bytes out : List ℕ) (r : R) → Below 256 bytes → read_real_answer n m bytes ≡ Is r → n ≤ length out
-    → (put_real_answer r.magnitude n r.places (length out) ≡ Done) × (put_real_left r.negative r.magnitude n r.places out ≡ take n bytes ++ drop n out)
+pub written_read : (n m : ℕ) (bytes out : List ℕ) (r : R) → Below 256 bytes → read_real_answer n m bytes ≡ Ok r → n ≤ length out
+    → (put_real_answer r.magnitude n r.places (length out) ≡ Ok tt) × (put_real_left r.negative r.magnitude n r.places out ≡ take n bytes ++ drop n out)
 unfolding real_in
 written_read n m bytes out r b e room =
     let p = real_only_if n m bytes r e in
@@ -103,7 +102,7 @@ written_read n m bytes out r b e room =
     )
 
 -- written where it was read, it changes no byte
-pub written_back : (n m : ℕ) (bytes : List ℕ) (r : R) → Below 256 bytes → read_real_answer n m bytes ≡ Is r
+pub written_back : (n m : ℕ) (bytes : List ℕ) (r : R) → Below 256 bytes → read_real_answer n m bytes ≡ Ok r
     → put_real_left r.negative r.magnitude n r.places bytes ≡ bytes
 written_back n m bytes r b e =
     (written_read n m bytes bytes r b e (real_only_if n m bytes r e).1).1 ∙ take-append-drop n bytes

@@ -1,16 +1,10 @@
 -- R*n.m written: the answer, and the output after the call. Bytes past the n stay, and a refused call leaves every byte.
 -- Assumes nothing.
-use Rattle.std.specs.Prelude.{Bool, List, ◌∷◌, ◌++◌, ◌≡◌, ℕ, ◌-◌, ◌^◌, ltb, length, drop}
-use Rattle.refusals.specs.Refusals.{first, when, kept, answered, short_of, Genuine}
+use Rattle.std.specs.Prelude.{Bool, List, ◌∷◌, ◌++◌, ◌≡◌, ℕ, ◌-◌, ◌^◌, ltb, length, drop, Result, Ok}
+use Rattle.refusals.specs.declared.Refusal.{Refusal}
+use Rattle.refusals.specs.Refusals.{first, when, kept, answered, refuses, answer_number, short_of}
 use Rattle.bits.specs.Bits.{digits, fields_of}
-use Rattle.number_writer.specs.declared.Put.{Put}
-use Rattle.number_writer.specs.declared.Put.TheVariants.{Done, Refused}
 use Rattle.numbers.specs.Reals.{form_refusal, sign_bit, magnitude_bits}
-
--- the paper's number for each answer
-abbrev pub put_number : Put → ℕ
-put_number Done = 0
-put_number (Refused r) = r
 
 -- the n bytes of sign bit and magnitude
 unfoldable pub real_bytes : Bool → ℕ → ℕ → List ℕ
@@ -21,12 +15,12 @@ unfoldable pub put_real_refusal : ℕ → ℕ → ℕ → ℕ → ℕ
 put_real_refusal magnitude n m room =
     first (form_refusal n m) (first (when (ltb (2 ^ magnitude_bits n - 1) magnitude) 11) (short_of room n 3))
 
-unfoldable pub put_real_answer : ℕ → ℕ → ℕ → ℕ → Put
-put_real_answer magnitude n m room = answered Refused (put_real_refusal magnitude n m room) Done
+unfoldable pub put_real_answer : ℕ → ℕ → ℕ → ℕ → Result (Unit {0}) Refusal
+put_real_answer magnitude n m room = answered refuses (put_real_refusal magnitude n m room) (Ok tt)
 
 -- THE CONTRACT of `put_real`: the number of its refusal. Its output is `put_real_left`
-abbrev pub PutRealOk : ℕ → ℕ → ℕ → ℕ → Put → Type 0
-PutRealOk magnitude n m room r = (put_number r ≡ put_real_refusal magnitude n m room) × Genuine Refused r
+abbrev pub PutRealOk : ℕ → ℕ → ℕ → ℕ → Result (Unit {0}) Refusal → Type 0
+PutRealOk magnitude n m room r = answer_number r ≡ put_real_refusal magnitude n m room
 
 -- the output
 unfoldable pub put_real_left : Bool → ℕ → ℕ → ℕ → List ℕ → List ℕ

@@ -8,18 +8,13 @@
 #![tactic(auto)]
 
 ghost use Rattle.std.specs.Prelude.{◌≡◌, ◌+◌, ◌*◌, ◌^◌, ◌≤◌, ◌<◌, length};
+ghost use Rattle.refusals.specs.Refusals.{answer_number};
 ghost use Rattle.numbers.specs.Reals.{sign_bit};
 ghost use Rattle.number_writer.specs.Written.{put_real_refusal, PutRealOk, put_real_left};
 
 use numbers::{form_refusal, sign_weight};
 use octets::put_whole;
-
-// The answer to a write.
-#[derive(Clone, Copy)]
-pub enum Put {
-    Done,
-    Refused(u8),
-}
+use refusals::{Refusal, enough};
 
 // Sign and magnitude put together at the weight of the sign bit.
 fn put_together(negative: bool, magnitude: u64, weight: u64) -> u64
@@ -33,32 +28,32 @@ fn put_together(negative: bool, magnitude: u64, weight: u64) -> u64
     }
 }
 
-// What refuses a write of R*n.m: 10, 11, 3; else 0.
-fn put_refusal(magnitude: u64, n: usize, m: u8, room: usize) -> u8
-    ensures { result ≡ put_real_refusal magnitude n m room }
+// Refuses a write of R*n.m: with 10, 11, 3.
+#[tactic(auto, using(refusals::proofs::Numbers::refused_first, refusals::proofs::Numbers::passed_first, crate::proofs::Puts::form_known, crate::proofs::Puts::too_large, crate::proofs::Puts::small_enough), unfolding(crate::specs::Written::put_real_refusal))]
+fn put_refusal(magnitude: u64, n: usize, m: u8, room: usize) -> Result<(), Refusal>
+    ensures { answer_number result ≡ put_real_refusal magnitude n m room }
 {
-    let form = form_refusal(n, m);
-    if form != 0 {
-        return form;
+    form_refusal(n, m)?;
+    if sign_weight(n) - 1 < magnitude {
+        return Err(Refusal::Magnitude);
     }
-    let weight = sign_weight(n);
-    if weight - 1 < magnitude {
-        return refusals::MAGNITUDE;
-    }
-    refusals::short(room, n, refusals::SHORT_OUTPUT)
+    enough(room, n, Refusal::ShortOutput)
 }
 
 // The bytes of R*n.m: 10 for n neither 4 nor 6 or m over 15, 11 for a magnitude that does not fit beside the sign bit,
 // 3 for an output under n bytes. Bytes past the n stay, and a refused call changes none.
-pub fn put_real(negative: bool, magnitude: u64, n: usize, m: u8, out: &mut [u8]) -> Put
+#[tactic(auto, using(crate::proofs::Puts::known, crate::proofs::Puts::weight_small, crate::proofs::Puts::left_written))]
+pub fn put_real(
+    negative: bool,
+    magnitude: u64,
+    n: usize,
+    m: u8,
+    out: &mut [u8],
+) -> Result<(), Refusal>
     ensures put_real_ok { PutRealOk magnitude n m (length out.old) result }
     ensures out_after { out.new ≡ put_real_left negative magnitude n m out.old }
 {
-    let refused = put_refusal(magnitude, n, m, out.len());
-    if refused != 0 {
-        return Put::Refused(refused);
-    }
-    let weight = sign_weight(n);
-    put_whole(put_together(negative, magnitude, weight), n, out);
-    Put::Done
+    put_refusal(magnitude, n, m, out.len())?;
+    put_whole(put_together(negative, magnitude, sign_weight(n)), n, out);
+    Ok(())
 }

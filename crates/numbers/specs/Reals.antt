@@ -1,23 +1,14 @@
 -- R*n.m, n 4 or 6, m 0 to 15: a sign bit, a magnitude in the other 31 or 47 bits, the first bit the highest, and m decimal
 -- places. A set sign bit over a magnitude of 0 is a negative zero, and stays one. Assumes nothing.
-use Rattle.std.specs.Prelude.{Bool, true, false, not, ◌&&◌, ◌||◌, List, ◌≡◌, ℕ, ◌*◌, ◌-◌, eqb, ltb, length, get_or}
-use Rattle.refusals.specs.Refusals.{first, when, kept, answered, short_of, Genuine}
+use Rattle.std.specs.Prelude.{Bool, true, false, not, ◌&&◌, ◌||◌, List, ℕ, ◌*◌, ◌-◌, eqb, ltb, length, get_or, Result, Ok}
+use Rattle.refusals.specs.declared.Refusal.{Refusal}
+use Rattle.refusals.specs.Refusals.{first, when, answered, refuses, short_of, Answers}
 use Rattle.bits.specs.Bits.{bits_of, part, number_of}
 use Rattle.numbers.specs.declared.R.{R}
-use Rattle.numbers.specs.declared.Real.{Real}
-use Rattle.numbers.specs.declared.Real.TheVariants.{Is, Refused}
 
--- the paper's number and value for each answer; a refusal has 0 in every part
+-- a refusal has 0 in every part
 abbrev pub zero_real : R
 zero_real = record { negative = false; magnitude = 0; places = 0 }
-
-abbrev pub real_number : Real → ℕ
-real_number (Is x) = 0
-real_number (Refused r) = r
-
-abbrev pub real_value : Real → R
-real_value (Is x) = x
-real_value (Refused r) = zero_real
 
 -- no R*n.m of the paper
 unfoldable pub no_real : ℕ → ℕ → Bool
@@ -48,12 +39,9 @@ real_in n m bytes = record {
 unfoldable pub read_real_refusal : ℕ → ℕ → ℕ → ℕ
 read_real_refusal n m given = first (form_refusal n m) (short_of given n 2)
 
-unfoldable pub read_real_answer : ℕ → ℕ → List ℕ → Real
-read_real_answer n m bytes = answered Refused (read_real_refusal n m (length bytes)) (Is (real_in n m bytes))
+unfoldable pub read_real_answer : ℕ → ℕ → List ℕ → Result R Refusal
+read_real_answer n m bytes = answered refuses (read_real_refusal n m (length bytes)) (Ok (real_in n m bytes))
 
 -- THE CONTRACT of `read_real`: the number of its refusal, and sign, magnitude and places, all 0 where it is refused
-abbrev pub ReadRealOk : ℕ → ℕ → List ℕ → Real → Type 0
-ReadRealOk n m bytes r =
-    (real_number r ≡ read_real_refusal n m (length bytes))
-    × (real_value r ≡ kept (read_real_refusal n m (length bytes)) zero_real (real_in n m bytes))
-    × Genuine Refused r
+abbrev pub ReadRealOk : ℕ → ℕ → List ℕ → Result R Refusal → Type 0
+ReadRealOk n m bytes r = Answers (read_real_refusal n m (length bytes)) zero_real (real_in n m bytes) r

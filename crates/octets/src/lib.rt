@@ -12,32 +12,21 @@ ghost use Rattle.std.specs.Prelude.{◌≡◌, ◌++◌, ◌+◌, ◌-◌, ◌*�
 ghost use Rattle.bits.specs.Bits.{stretch, same, digits, in_base, fields_of};
 
 // Inner. Whether n bytes of a, from one place on, are those of b from another.
+#[tactic(auto, using(crate::proofs::Turns::compared), unfolding(bits::specs::Bits::stretch))]
 pub fn same(a: &[u8], from: usize, b: &[u8], at: usize, n: usize) -> bool
     requires { (from + n ≤ length a.now) × (at + n ≤ length b.now) }
     ensures { result ≡ same (stretch a.now from n) (stretch b.now at n) }
 {
-    let mut i: usize = 0;
-    while i < n {
-        let x = a[from + i];
-        let y = b[at + i];
-        if x != y {
-            return false;
-        }
-        i += 1;
-    }
-    true
+    a[from..from + n] == b[at..at + n]
 }
 
 // Inner. The n bytes of a from one place on, put into b from another; every other byte of b is kept.
+#[tactic(auto, unfolding(bits::specs::Bits::stretch))]
 pub fn copy(a: &[u8], from: usize, n: usize, b: &mut [u8], at: usize)
     requires { (from + n ≤ length a.now) × (at + n ≤ length b.old) }
     ensures { b.new ≡ take at b.old ++ stretch a.now from n ++ drop (at + n) b.old }
 {
-    let mut i: usize = 0;
-    while i < n {
-        b[at + i] = a[from + i];
-        i += 1;
-    }
+    b[at..at + n].copy_from_slice(&a[from..from + n]);
 }
 
 // Inner. One value n times, put into b from a place on; every other byte of b is kept.
@@ -45,11 +34,7 @@ pub fn fill(value: u8, n: usize, b: &mut [u8], at: usize)
     requires { at + n ≤ length b.old }
     ensures { b.new ≡ take at b.old ++ replicate n value ++ drop (at + n) b.old }
 {
-    let mut i: usize = 0;
-    while i < n {
-        b[at + i] = value;
-        i += 1;
-    }
+    b[at..at + n].fill(value);
 }
 
 // Inner. A byte as a number.
@@ -61,15 +46,15 @@ pub fn byte_at(bytes: &[u8], i: usize) -> u64
 }
 
 // Inner. The unsigned number that the first n bytes write, high byte first: at most eight, so that it fits.
+#[tactic(auto, using(crate::proofs::Turns::whole_turns))]
 pub fn whole(bytes: &[u8], n: usize) -> u64
     requires { (n ≤ length bytes.now) × (n ≤ 8) }
     ensures { (result ≡ in_base 256 (take n bytes.now)) × (result < 256 ^ n) }
 {
     let mut a: u64 = 0;
-    let mut left = n;
-    while 0 < left {
-        a = a * 256 + byte_at(bytes, n - left);
-        left -= 1;
+    // by place, so that the edit low_byte_first, which reads from the last byte to the first, changes the place alone
+    for i in 0..n {
+        a = a * 256 + byte_at(bytes, i);
     }
     a
 }
@@ -85,13 +70,12 @@ pub fn integer_at(bytes: &[u8], place: usize) -> u16
 }
 
 // Inner. The low n bytes of v, high byte first, put at the front; what lies behind them is kept.
+#[tactic(auto, using(crate::proofs::Turns::put_none))]
 pub fn put_whole(v: u64, n: usize, out: &mut [u8])
     requires { (n ≤ length out.old) × (n ≤ 8) }
     ensures { out.new ≡ fields_of 8 n (digits (8 * n) v) ++ drop n out.old }
 {
-    let mut i: usize = 0;
-    while i < n {
-        out[i] = ((v >> (8 * (n - 1 - i))) & 255) as u8;
-        i += 1;
+    for (i, byte) in out[..n].iter_mut().enumerate() {
+        *byte = ((v >> (8 * (n - 1 - i))) & 255) as u8;
     }
 }

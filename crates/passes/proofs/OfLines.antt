@@ -1,5 +1,5 @@
 -- THE CALLS ON REPORTS OF LINES: what `with_line` and `together` answer there, and what such a report says. Assumes nothing.
-use mathlib.Core.Path.{◌≡◌, sym, ap, ap₂, subst, ◌∙◌}
+use mathlib.Core.Path.{◌≡◌, refl, sym, ap, ap₂, subst, ◌∙◌}
 use mathlib.Core.Logic.{◌↔◌}
 use mathlib.Core.List.{List, [], ◌∷◌, ◌++◌}
 use Prim.Native.Nat.{ℕ, suc, ◌+◌, ◌≤◌, ◌<◌}
@@ -7,21 +7,21 @@ use native.Mathlib.Omega.{arith}
 use lib.Dec.{ltb}
 use lib.ListN.{length}
 use borrow.Author.Tests.{le-ltb}
-use Rattle.refusals.specs.Refusals.{first, short_of}
+use Rattle.std.specs.Prelude.{None, Ok}
+use Rattle.refusals.specs.Refusals.{answered, refuses, first, short_of}
 use Rattle.refusals.proofs.Words.{first_none, when_false}
 use Rattle.formats.specs.Formats.{line_bytes, format_refusal, check_start}
 use Rattle.bits.specs.Bits.{bits_of}
 use Rattle.report_record.specs.declared.Tally.{Tally}
 use Rattle.report_record.specs.declared.Channel.{Channel}
-use Rattle.report_record.specs.declared.Range.TheVariants.{Absent}
 use Rattle.report_record.specs.declared.Report.{Report}
-use Rattle.report_record.specs.Report.{report_by, report_of, tally_of, pixels_in, channel_of, Plain, tally_at, channel_at}
+use Rattle.report_record.specs.Report.{report_by, report_of, tally_of, pixels_in, channel_of, added, Plain, tally_at, channel_at}
 use Rattle.report_record.specs.Possible.{most_lines, record_refusal}
 use Rattle.report_record.proofs.Ranges.{absent_exactly}
 use Rattle.report_record.proofs.Possible.{record_passes}
 use Rattle.report_line.proofs.Passing.{report_passes, adds_up}
 use Rattle.report.specs.Calls.{full_refusal, with_line_refusal, with_line_answer, together_refusal, together_answer}
-use Rattle.report.proofs.Answers.{reported_done, full_within}
+use Rattle.report.proofs.Answers.{full_within}
 use Rattle.passes.proofs.Laws.{report_append, report_tally, report_channel, report_lines}
 
 -- ---- EVERY REPORT of at most 100,000 lines of bits passes 12
@@ -38,7 +38,7 @@ counts_add_up f ls i p =
 
 -- ---- ABSENT exactly where a channel has no pixels
 pub channel_absent : (f : ℕ) (ls : List (List ℕ)) (i : ℕ) → i < 4
-    → let c = channel_at (report_of f ls) i in (c.range ≡ Absent) ↔ (c.count ≡ 0)
+    → let c = channel_at (report_of f ls) i in (c.range ≡ None) ↔ (c.count ≡ 0)
 unfolding report_of channel_of
 channel_absent f ls i p =
     let e = report_channel (check_start f) ls i p in
@@ -46,6 +46,11 @@ channel_absent f ls i p =
     let r = ap (λ (c : Channel). c.range) e in
     let n = ap (λ (c : Channel). c.count) e in
     (λ h. n ∙ d.0 (sym r ∙ h), λ h. r ∙ d.1 (sym n ∙ h))
+
+-- ---- a call that is not refused gives what it is asked for
+pub answered_done : (k : ℕ) (r : Report) → k ≡ 0 → answered refuses k (Ok r) ≡ Ok r
+unfolding answered
+answered_done k r e = rw e refl
 
 -- ---- ONE LINE MORE
 
@@ -70,19 +75,20 @@ line_taken f ls line known p h long =
 
 -- WITH ONE LINE MORE the report of lines is the report of the lines with that line behind them
 pub with_line_report : (f : ℕ) (ls : List (List ℕ)) (line : List ℕ) → format_refusal f ≡ 0 → Plain ls → length ls < most_lines → line_bytes ≤ length line
-    → with_line_answer f (report_of f ls) line ≡ record { refused = 0; report = report_of f (ls ++ (bits_of line ∷ [])) }
+    → with_line_answer f (report_of f ls) line ≡ Ok (report_of f (ls ++ (bits_of line ∷ [])))
 unfolding with_line_answer
 with_line_report f ls line known p h long =
-    sym (reported_done _ _ _ _ (line_taken f ls line known p h long) (report_append f ls (bits_of line ∷ [])))
+    answered_done (with_line_refusal f (report_of f ls) (length line)) (added (report_of f ls) (report_of f (bits_of line ∷ []))) (line_taken f ls line known p h long)
+    ∙ ap Ok (sym (report_append f ls (bits_of line ∷ [])))
 
 -- TWO PASSES, one after the other
 pub together_report : (f : ℕ) (xs ys : List (List ℕ)) → Plain xs → Plain ys → length xs + length ys ≤ most_lines
-    → together_answer (report_of f xs) (report_of f ys) ≡ record { refused = 0; report = report_of f (xs ++ ys) }
+    → together_answer (report_of f xs) (report_of f ys) ≡ Ok (report_of f (xs ++ ys))
 unfolding together_answer together_refusal
 together_report f xs ys p q h =
     let a : Report = report_of f xs in
     let b : Report = report_of f ys in
     let n : a.lines + b.lines ≤ most_lines = subst (λ (k : ℕ). k ≤ most_lines) (sym (ap₂ (λ (x y : ℕ). x + y) (report_length f xs) (report_length f ys))) h in
-    sym (reported_done _ _ _ _
+    answered_done (first (first (record_refusal a) (record_refusal b)) (full_refusal a.lines b.lines)) (added a b)
     (first_none (first (record_refusal a) (record_refusal b)) _ (first_none (record_refusal a) _ (never_12 f xs p (omega arith)) ∙ never_12 f ys q (omega arith)) ∙ sym (full_within a.lines b.lines n))
-    (report_append f xs ys))
+    ∙ ap Ok (sym (report_append f xs ys))

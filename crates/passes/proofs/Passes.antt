@@ -5,16 +5,17 @@ use mathlib.Core.Bool.{Bool, true, false, cond}
 use mathlib.Core.List.{List, [], ◌∷◌, ◌++◌, append_assoc, append-nil}
 use mathlib.Core.Logic.{◌↔◌}
 use mathlib.Core.Path.{◌≡◌, refl, sym, ap, subst, ◌∙◌}
-use Prim.Native.Nat.{ℕ, zero, suc, ◌+◌, ◌≤◌, ◌<◌}
+use Prim.Native.Nat.{ℕ, zero, suc, ◌≤◌, ◌<◌}
 use native.Mathlib.Omega.{arith}
 use borrow.Author.Tests.{ltb-true, ltb-false}
 use lib.Dec.{ltb}
 use lib.ListN.{length, take, drop, length-append}
 use lib.Seq.{take_all, take-append-le, length-take-le}
+use Rattle.refusals.proofs.Answered.{answered_value}
 use Rattle.refusals.proofs.Words.{kept_some}
 use Rattle.formats.specs.Formats.{format_of, line_bytes, format_refusal, check_start}
 use Rattle.formats.specs.declared.Format.{Format}
-use Rattle.formats.specs.declared.FormatAnswer.TheVariants.{Is}
+use Rattle.std.specs.Prelude.{Ok}
 use Rattle.formats.proofs.Which.{is_known}
 use Rattle.bits.specs.Bits.{bits_of, in_arow, Below}
 use Rattle.bits.proofs.Bytes.{bits_below}
@@ -31,8 +32,7 @@ use Rattle.report_record.specs.declared.Report.{Report}
 use Rattle.report_record.specs.Report.{report_of, report_by, added, Plain, empty_report}
 use Rattle.report_record.specs.Possible.{most_lines}
 use Rattle.report_line.proofs.Passing.{report_passes}
-use Rattle.report.specs.declared.Reported.{Reported}
-use Rattle.report.specs.Calls.{with_line_refusal, with_line_answer}
+use Rattle.report.specs.Calls.{with_line_refusal, with_line_answer, report_after}
 use Rattle.demands.proofs.Fifteen.{exactly_15}
 use Rattle.passes.specs.Passes as passes
 use Rattle.passes.specs.Passes.{Reporting}
@@ -74,33 +74,34 @@ refused_15 f known ls plain full given =
     (known, report_passes (check_start f) ls plain (omega arith), omega (arith, report_length f ls))
 
 module _ (f : ℕ) (known : format_refusal f ≡ 0) (ls : List (List ℕ)) (plain : Plain ls) (b : List ℕ) (long : line_bytes ≤ length b) where
-  room : length ls < most_lines → (with_line_answer f (so_far f ls) b).report ≡ so_far f (ls ++ (line_in b ∷ []))
+  room : length ls < most_lines → report_after (so_far f ls) (with_line_answer f (so_far f ls) b) ≡ so_far f (ls ++ (line_in b ∷ []))
   room h =
-      ap (λ (l : List (List ℕ)). (with_line_answer f (report_of f l) b).report) (take_all most_lines ls (omega arith))
-      ∙ ap (λ (a : Reported). a.report) (with_line_report f ls b known plain h long)
+      ap (λ (l : List (List ℕ)). report_after (report_of f l) (with_line_answer f (report_of f l) b)) (take_all most_lines ls (omega arith))
+      ∙ ap (report_after (report_of f ls)) (with_line_report f ls b known plain h long)
       ∙ report_append f ls (bits_of b ∷ [])
       ∙ ap (added (report_of f ls)) (report_buffer f b long)
       ∙ sym (report_append f ls (line_in b ∷ []))
       ∙ ap (report_of f) (sym (take_all most_lines (ls ++ (line_in b ∷ [])) (omega (arith, length-append ls (line_in b ∷ [])))))
 
-  full : most_lines ≤ length ls → (with_line_answer f (so_far f ls) b).report ≡ so_far f (ls ++ (line_in b ∷ []))
+  full : most_lines ≤ length ls → report_after (so_far f ls) (with_line_answer f (so_far f ls) b) ≡ so_far f (ls ++ (line_in b ∷ []))
   unfolding with_line_answer
   full h =
       let r : Report = so_far f ls in
       let e = refused_15 f known (take most_lines ls) (plain_take most_lines ls plain) (length-take-le most_lines ls h) (length b) in
-      kept_some (with_line_refusal f r (length b)) r (added r (report_of f (bits_of b ∷ []))) (λ z. let w = sym e ∙ z in omega arith)
+      answered_value (with_line_refusal f r (length b)) r (added r (report_of f (bits_of b ∷ [])))
+      ∙ kept_some (with_line_refusal f r (length b)) r (added r (report_of f (bits_of b ∷ []))) (λ z. let w = sym e ∙ z in omega arith)
       ∙ ap (report_of f) (sym (take-append-le most_lines ls (line_in b ∷ []) h))
 
-  fed : (with_line_answer f (so_far f ls) b).report ≡ so_far f (ls ++ (line_in b ∷ []))
+  fed : report_after (so_far f ls) (with_line_answer f (so_far f ls) b) ≡ so_far f (ls ++ (line_in b ∷ []))
   fed = by (ltb (length ls) most_lines) refl
     where
-      by : (t : Bool) → ltb (length ls) most_lines ≡ t → (with_line_answer f (so_far f ls) b).report ≡ so_far f (ls ++ (line_in b ∷ []))
+      by : (t : Bool) → ltb (length ls) most_lines ≡ t → report_after (so_far f ls) (with_line_answer f (so_far f ls) b) ≡ so_far f (ls ++ (line_in b ∷ []))
       by true e = room (ltb-true (length ls) most_lines e)
       by false e = full (ltb-false (length ls) most_lines e)
 
 -- ---- the lines of such a run, and its report
 
-module _ (f : ℕ) (format : Format) (ok : format_of f ≡ Is format) (setting : ℕ) (small : setting ≤ largest_setting)
+module _ (f : ℕ) (format : Format) (ok : format_of f ≡ Ok format) (setting : ℕ) (small : setting ≤ largest_setting)
     (lend : ℕ → List ℕ → List ℕ) (long : (k : ℕ) (b : List ℕ) → 44356 ≤ length b → 44356 ≤ length (lend k b)) where
   lent_long : (k : ℕ) (s : State) (buf : List ℕ) → 44356 ≤ length buf → 44356 ≤ length (lent_for lend k s buf)
   lent_long k s buf m = by s.in_line
@@ -129,7 +130,7 @@ module _ (f : ℕ) (format : Format) (ok : format_of f ≡ Is format) (setting :
   run_of {k} {s} {buf} (passes.Reporting.got {p = p} a d) m before h e =
       let b : List ℕ = read_left f setting s p (lent_for lend k s buf) in
       let room = read_long k s p buf m in
-      let next = ap (λ (z : Report). (with_line_answer f z b).report) e ∙ fed f (is_known f format ok) before h b room in
+      let next = ap (λ (z : Report). report_after z (with_line_answer f z b)) e ∙ fed f (is_known f format ok) before h b room in
       let x = run_of d room (before ++ (line_in b ∷ [])) (plain_more before (line_in b) h (line_below b)) next in
       record {
         ls = line_in b ∷ x.ls;

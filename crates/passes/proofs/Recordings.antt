@@ -9,7 +9,7 @@ use native.Mathlib.Omega.{arith}
 use lib.ListN.{length, replicate, length-replicate, length-map}
 use Rattle.formats.specs.Formats.{format_of}
 use Rattle.formats.specs.declared.Format.{Format}
-use Rattle.formats.specs.declared.FormatAnswer.TheVariants.{Is}
+use Rattle.std.specs.Prelude.{Ok}
 use Rattle.bits.specs.Bits.{bits_of, in_arow, Below}
 use Rattle.reader_bits.specs.Lines.{recorded}
 use Rattle.reader_record.specs.Records.{fresh_state}
@@ -43,7 +43,7 @@ driven_plain (driven.Driven.used d) = driven_plain d
 driven_plain (driven.Driven.on e d) = driven_plain d
 driven_plain (driven.Driven.got {ls = ls} e d) = plain_cons _ ls (line_below _) (driven_plain d)
 
-module _ (f : ℕ) (format : Format) (ok : format_of f ≡ Is format) (setting : ℕ) (small : setting ≤ largest_setting) where
+module _ (f : ℕ) (format : Format) (ok : format_of f ≡ Ok format) (setting : ℕ) (small : setting ≤ largest_setting) where
   -- THE LINES OF A RECORDING are lines of bits
   pub recorded_plain : (bytes : List ℕ) → Plain (recorded setting bytes)
   recorded_plain bytes =
@@ -58,7 +58,7 @@ module _ (f : ℕ) (format : Format) (ok : format_of f ≡ Is format) (setting :
   pub two_passes : (lend : ℕ → List ℕ → List ℕ) → ((k : ℕ) (b : List ℕ) → 44356 ≤ length b → 44356 ≤ length (lend k b)) → (buf : List ℕ) → 44356 ≤ length buf
       → (ps qs : List (List ℕ)) → length (recorded setting (in_arow ps)) + length (recorded setting (in_arow qs)) ≤ most_lines → (q r : Report)
       → Reporting f setting lend 0 fresh_state buf ps empty_report q → Reporting f setting lend 0 fresh_state buf qs empty_report r
-      → together_answer q r ≡ record { refused = 0; report = report_of f (recorded setting (in_arow ps) ++ recorded setting (in_arow qs)) }
+      → together_answer q r ≡ Ok (report_of f (recorded setting (in_arow ps) ++ recorded setting (in_arow qs)))
   two_passes lend long buf m ps qs few q r one two =
       ap₂ together_answer ((report_of_pass f format ok setting small lend long buf m ps q (omega arith)).0 one) ((report_of_pass f format ok setting small lend long buf m qs r (omega arith)).0 two)
       ∙ together_report f (recorded setting (in_arow ps)) (recorded setting (in_arow qs)) (recorded_plain (in_arow ps)) (recorded_plain (in_arow qs)) few

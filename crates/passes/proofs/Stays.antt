@@ -9,7 +9,9 @@ use native.Mathlib.Nat.{add_comm}
 use native.Mathlib.Omega.{arith}
 use lib.Dec.{ltb}
 use lib.ListN.{length}
+use Rattle.std.specs.Prelude.{Ok}
 use Rattle.refusals.specs.Refusals.{first, when, kept}
+use Rattle.refusals.proofs.Answered.{answered_value}
 use Rattle.refusals.proofs.Words.{first_none}
 use Rattle.formats.specs.Formats.{check_start}
 use Rattle.bits.specs.Bits.{bits_of}
@@ -21,8 +23,9 @@ use Rattle.report_record.specs.Report.{tally_at, channel_at, add_tally, add_chan
 use Rattle.report_record.specs.Possible.{most_lines, possible_report, record_refusal}
 use Rattle.report_record.proofs.Possible.{TallyFits, ChannelFits, Possible, possible_means, possible_made, record_passes}
 use Rattle.report_line.proofs.Passing.{report_possible}
-use Rattle.report.specs.Calls.{full_refusal, with_line_refusal, with_line_answer, together_refusal, together_answer, reported}
-use Rattle.report.proofs.Answers.{reported_done, full_within, together_served, line_served}
+use Rattle.report.specs.Calls.{full_refusal, with_line_refusal, with_line_answer, together_refusal, together_answer, report_after}
+use Rattle.report.proofs.Answers.{full_within, together_served, line_served}
+use Rattle.passes.proofs.OfLines.{answered_done}
 use Rattle.passes.proofs.Laws.{added_tally, added_channel, added_lines, added_comm, added_assoc, report_lines}
 
 -- 12 in the paper's words
@@ -65,19 +68,21 @@ unfolding kept
 given_back zero was becomes p f = f refl
 given_back (suc k) was becomes p f = p
 
-pub together_stays : (a b : Report) → Possible a → Possible (together_answer a b).report
+pub together_stays : (a b : Report) → Possible a → Possible (report_after a (together_answer a b))
 unfolding together_answer
 together_stays a b p =
-    given_back (together_refusal a b) a (added a b) p
-    (λ e. let s = together_served a b e in added_possible a b p (possible_means b s.two) s.room)
+    rw (answered_value (together_refusal a b) a (added a b))
+    (given_back (together_refusal a b) a (added a b) p
+    (λ e. let s = together_served a b e in added_possible a b p (possible_means b s.two) s.room))
 
-pub with_line_stays : (f : ℕ) (r : Report) (line : List ℕ) → Possible r → Possible (with_line_answer f r line).report
+pub with_line_stays : (f : ℕ) (r : Report) (line : List ℕ) → Possible r → Possible (report_after r (with_line_answer f r line))
 unfolding with_line_answer report_of Plain
 with_line_stays f r line p =
-    given_back (with_line_refusal f r (length line)) r (added r (report_by (check_start f) (bits_of line ∷ []))) p
+    rw (answered_value (with_line_refusal f r (length line)) r (added r (report_by (check_start f) (bits_of line ∷ []))))
+    (given_back (with_line_refusal f r (length line)) r (added r (report_by (check_start f) (bits_of line ∷ []))) p
     (λ e. let s = line_served f r (length line) e in
     added_possible r (report_by (check_start f) (bits_of line ∷ [])) p (report_possible (check_start f) (bits_of line ∷ []) (bits_below line, tt) (omega arith))
-    (subst (λ (n : ℕ). r.lines + n ≤ most_lines) (sym (report_lines (check_start f) (bits_of line ∷ []))) s.room))
+    (subst (λ (n : ℕ). r.lines + n ≤ most_lines) (sym (report_lines (check_start f) (bits_of line ∷ []))) s.room)))
 
 -- ---- the order does not matter, refused or not
 
@@ -94,15 +99,12 @@ together_number_comm a b =
     two_first (not (possible_report a)) (not (possible_report b)) (when (ltb most_lines (a.lines + b.lines)) 15)
     ∙ ap (λ (n : ℕ). first (first (when (not (possible_report b)) 12) (when (not (possible_report a)) 12)) (when (ltb most_lines n) 15)) (add_comm a.lines b.lines)
 
-reported_zero : (k : ℕ) (was becomes : Report) → k ≡ 0 → reported k was becomes ≡ record { refused = 0; report = becomes }
-reported_zero k was becomes e = sym (reported_done k was becomes becomes e refl)
-
 pub together_comm : (a b : Report) → together_refusal a b ≡ 0 → together_answer a b ≡ together_answer b a
 unfolding together_answer
 together_comm a b e =
-    reported_zero (together_refusal a b) a (added a b) e
-    ∙ ap (λ (r : Report). record { refused = 0; report = r }) (added_comm a b)
-    ∙ sym (reported_zero (together_refusal b a) b (added b a) (sym (together_number_comm a b) ∙ e))
+    answered_done (together_refusal a b) (added a b) e
+    ∙ ap Ok (added_comm a b)
+    ∙ sym (answered_done (together_refusal b a) (added b a) (sym (together_number_comm a b) ∙ e))
 
 -- ---- three passes: where (a b) c is served so is a (b c), with the same report
 
@@ -130,7 +132,7 @@ together_assoc a b c e d =
     record {
       later = together_served_if b c s.two t.two few;
       whole = w;
-      same = reported_zero (together_refusal (added a b) c) (added a b) (added (added a b) c) d
-          ∙ ap (λ (r : Report). record { refused = 0; report = r }) (added_assoc a b c)
-          ∙ sym (reported_zero (together_refusal a (added b c)) a (added a (added b c)) w);
+      same = answered_done (together_refusal (added a b) c) (added (added a b) c) d
+          ∙ ap Ok (added_assoc a b c)
+          ∙ sym (answered_done (together_refusal a (added b c)) (added a (added b c)) w);
     }

@@ -7,48 +7,56 @@
 ghost use Rattle.std.specs.Prelude.{◌≡◌, ◌≤◌, length};
 ghost use Rattle.formats.specs.Formats.{line_bytes};
 ghost use Rattle.bits.specs.Bits.{bits_of};
+ghost use Rattle.refusals.specs.Refusals.{answer_number};
 ghost use Rattle.sector_table.specs.Layout.{Sound};
 ghost use Rattle.pixel_refusals.specs.Refusing.{values_refusal, data_answer, pixels_answer};
 
 use formats::check_start;
-use refusals::short;
+use refusals::{Refusal, enough};
 use sector_check::answer;
 use sector_table::asked::line_refusal;
 use sector_table::layout::{Layout, data_bytes, layout_of};
 
-// Inner. 3 where the output is shorter than what is needed, then 5 or 6 where the sector is not accepted; else 0.
-pub fn values_refusal(start: u16, l: Layout, line: &[u8], given: usize, needed: usize) -> u8
+// Inner. Refuses, with 3, where the output is shorter than what is needed, then with 5 or 6 where the sector is not accepted.
+#[tactic(auto, using(refusals::proofs::Numbers::refused_first, refusals::proofs::Numbers::passed_first), unfolding(crate::specs::Refusing::values_refusal))]
+pub fn values_refusal(
+    start: u16,
+    l: Layout,
+    line: &[u8],
+    given: usize,
+    needed: usize,
+) -> Result<(), Refusal>
     requires { Sound l × (line_bytes ≤ length line.now) }
-    ensures { result ≡ values_refusal start l (bits_of line.now) given needed }
+    ensures { answer_number result ≡ values_refusal start l (bits_of line.now) given needed }
 {
-    let refused = short(given, needed, refusals::SHORT_OUTPUT);
-    if refused != 0 {
-        return refused;
-    }
+    enough(given, needed, Refusal::ShortOutput)?;
     answer(start, l, line)
 }
 
-// Inner. What refuses the data of a sector: 1, 4, 2, 3, 5, 6; else 0.
-pub fn data_refusal(format: u8, line: &[u8], sector: u8, given: usize) -> u8
-    ensures { result ≡ data_answer format line.now sector given }
+// Inner. What refuses the data of a sector: 1, 4, 2, 3, 5, 6.
+#[tactic(auto, using(refusals::proofs::Numbers::refused_first, refusals::proofs::Numbers::passed_first), unfolding(crate::specs::Refusing::data_answer))]
+pub fn data_refusal(format: u8, line: &[u8], sector: u8, given: usize) -> Result<(), Refusal>
+    ensures { answer_number result ≡ data_answer format line.now sector given }
 {
-    let refused = line_refusal(format, 1, 12, sector, line.len());
-    if refused != 0 {
-        return refused;
-    }
+    line_refusal(format, 1, 12, sector, line.len())?;
     let l = layout_of(sector);
     values_refusal(check_start(format), l, line, given, data_bytes(l))
 }
 
-// Inner. What refuses the pixels of a sector from lo to hi: 1, 4, 2, 3, 5, 6; else 0.
-pub fn pixels_refusal(format: u8, lo: u8, hi: u8, line: &[u8], sector: u8, given: usize) -> u8
+// Inner. What refuses the pixels of a sector from lo to hi: 1, 4, 2, 3, 5, 6.
+#[tactic(auto, using(refusals::proofs::Numbers::refused_first, refusals::proofs::Numbers::passed_first), unfolding(crate::specs::Refusing::pixels_answer))]
+pub fn pixels_refusal(
+    format: u8,
+    lo: u8,
+    hi: u8,
+    line: &[u8],
+    sector: u8,
+    given: usize,
+) -> Result<(), Refusal>
     requires { (1 ≤ lo) × (hi ≤ 12) }
-    ensures { result ≡ pixels_answer lo hi format line.now sector given }
+    ensures { answer_number result ≡ pixels_answer lo hi format line.now sector given }
 {
-    let refused = line_refusal(format, lo, hi, sector, line.len());
-    if refused != 0 {
-        return refused;
-    }
+    line_refusal(format, lo, hi, sector, line.len())?;
     let l = layout_of(sector);
     values_refusal(check_start(format), l, line, given, l.count)
 }

@@ -3,17 +3,16 @@
 use mathlib.Core.Path.{◌≡◌, refl, sym, ap, subst, ◌∙◌}
 use mathlib.Core.List.{List, [], ◌∷◌}
 use Prim.Native.Nat.{ℕ, zero, suc}
-use native.Mathlib.Nat.{suc-ne-zero}
 use lib.ListN.{length}
 use Rattle.blocks.specs.declared.assembly.Assembly.{Assembly}
 use Rattle.blocks.specs.Record.{revision_of}
-use Rattle.segments.specs.declared.Added.{Added}
-use Rattle.segments.specs.declared.Added.TheVariants as added
+use Rattle.segments.specs.declared.Placed.{Placed}
 use Rattle.segments.specs.Assembly.{assembly_after, add_segment_answer, add_segment_left}
-use Rattle.refusals.specs.Refusals.{answered}
-use Rattle.entries.specs.declared.revision.Revised.{Revised}
-use Rattle.entries.specs.declared.revision.Revised.TheVariants as revised
-use Rattle.entries.specs.Entries.{revised_number, revised_value, revision_refusal, revision_answer}
+use Rattle.std.specs.Prelude.{Result, Ok, Err}
+use Rattle.refusals.specs.declared.Refusal.{Refusal}
+use Rattle.refusals.specs.Refusals.{answered, refusal_of, refuses, answer_number, answer_value}
+use Rattle.refusals.proofs.Numbers.{number_some}
+use Rattle.entries.specs.Entries.{revision_refusal, revision_answer}
 use Rattle.assemblies.specs.Runs.{State, step, run, taken_lines, OneRevision}
 use Rattle.assemblies.proofs.Revised.{never_half}
 use Rattle.rack_blocks.specs.declared.AssemblyRecord.{AssemblyRecord}
@@ -21,9 +20,9 @@ use Rattle.rack_blocks.specs.declared.RevisionAnswer.{RevisionAnswer}
 use Rattle.rack_blocks.specs.Assembly.{assembly_of, record_after, add_given, revision_given}
 use Rattle.rack.specs.Assembled.{StateAt, state_of, step_at, run_at}
 
-after_through : (was : AssemblyRecord) (a : Added) → assembly_of (record_after was a) ≡ assembly_after (assembly_of was) a
-after_through was (added.Is p) = refl
-after_through was (added.Refused k) = refl
+after_through : (was : AssemblyRecord) (a : Result Placed Refusal) → assembly_of (record_after was a) ≡ assembly_after (assembly_of was) a
+after_through was (Ok p) = refl
+after_through was (Err e) = refl
 
 step_through : (f n : ℕ) (a : StateAt) (line : List ℕ) → state_of (step_at f n a line) ≡ step f n (state_of a) line
 unfolding step_at step add_given
@@ -36,16 +35,16 @@ run_through f n [] a = refl
 run_through f n (l ∷ ls) a = run_through f n ls (step_at f n a l) ∙ ap (λ (x : State). run f n x ls) (step_through f n a l)
 
 -- an answer with the number 0 is what was asked for: no refusal has that number
-is_given : (f : ℕ) (a : Assembly) (n : ℕ) (block : List ℕ) → (revision_given (revision_answer f a n block)).refused ≡ 0 → revision_answer f a n block ≡ revised.Is (revision_given (revision_answer f a n block)).revision
+is_given : (f : ℕ) (a : Assembly) (n : ℕ) (block : List ℕ) → (revision_given (revision_answer f a n block)).refused ≡ 0 → revision_answer f a n block ≡ Ok (revision_given (revision_answer f a n block)).revision
 unfolding revision_given revision_answer answered
 is_given f a n block = by (revision_refusal f a n (length block))
   where
-    v : Revised
-    v = revised.Is (revision_of n a.revisions)
+    v : Result ℕ Refusal
+    v = Ok (revision_of n a.revisions)
 
-    by : (k : ℕ) → revised_number (answered revised.Refused k v) ≡ 0 → answered revised.Refused k v ≡ revised.Is (revised_value (answered revised.Refused k v))
+    by : (k : ℕ) → answer_number (answered refuses k v) ≡ 0 → answered refuses k v ≡ Ok (answer_value 0 (answered refuses k v))
     by zero e = refl
-    by (suc k) e = absurd (suc-ne-zero k e)
+    by (suc k) e = absurd (number_some (refusal_of (suc k)) e)
 
 -- an assembly without marks, whatever numbers its record has
 abbrev pub begun_at : ℕ → ℕ → List ℕ → StateAt

@@ -3,52 +3,38 @@
 use mathlib.Core.Bool.{Bool, true, false, cond, false≢true, true≢false}
 use mathlib.Core.List.{List}
 use mathlib.Core.Path.{◌≡◌, refl, sym, ap, ◌∙◌}
-use Prim.Native.Nat.{ℕ, zero, ◌<◌}
-use native.Mathlib.Omega.{arith}
-use Rattle.reader_bits.specs.Call.{Call, more, whole}
-use Rattle.reader_bits.specs.Phase.{Bench}
+use Prim.Native.Nat.{ℕ}
+use Rattle.std.specs.Prelude.{Result, Ok, Err}
+use Rattle.refusals.specs.declared.Refusal.{Refusal}
+use Rattle.refusals.proofs.Numbers.{number_some}
 use Rattle.reader_record.specs.declared.State.{State}
-use Rattle.reader_line.specs.declared.Answer.{Answer}
-use Rattle.reader_line.specs.declared.Answer.TheVariants.{Refused, More, Line}
-use Rattle.reader.specs.Read.{read_answer, read_left, call_of}
-use Rattle.reader_line.specs.Answers.{call_answer}
+use Rattle.reader_line.specs.declared.Reading.{Reading}
+use Rattle.reader_line.specs.declared.Reading.TheVariants.{More, Line}
+use Rattle.reader.specs.Read.{read_answer, read_left}
 use Rattle.cuts.specs.Driven.{lent_for}
-use Rattle.cuts.proofs.Cases.{read_cases}
 use Rattle.rack_recording.specs.declared.ReaderState.{ReaderState}
 use Rattle.rack_recording.specs.declared.ReadAnswer.{ReadAnswer}
 use Rattle.rack_recording.specs.Recording.{kept_of, refused_read, read_given, read_of, line_left}
 use Rattle.rack.specs.Run.{lent_at}
 use Rattle.rack.proofs.Records.{kept_flag, read_through, line_through}
 
--- no refusal has the number 0
-refused_some : (f setting : ℕ) (s : State) (p buf : List ℕ) (n : ℕ) → read_answer f setting s p buf ≡ Refused n → zero < n
-refused_some f setting s p buf =
-    read_cases f setting s p buf (λ (a : Answer) (b : List ℕ). (n : ℕ) → a ≡ Refused n → zero < n)
-    (λ m h n e. let z : m ≡ n = cc in omega arith)
-    (λ h l n e. let z : ◌≡◌ {A = ℕ} 0 1 = cc in absurd (omega arith))
-    (λ h m l n e. go (call_of setting s p buf) n e)
-  where
-    go : (c : Call Bench) (n : ℕ) → call_answer c ≡ Refused n → zero < n
-    go (more t b m v) n e = let z : ◌≡◌ {A = ℕ} 0 1 = cc in absurd (omega arith)
-    go (whole t b m v) n e = let z : ◌≡◌ {A = ℕ} 0 1 = cc in absurd (omega arith)
-
 -- an answer that is not refused, by whether a line is complete
-abbrev pub answer_by : Bool → ℕ → State → Answer
-answer_by false t s = More t s
-answer_by true t s = Line t s
+abbrev pub answer_by : Bool → ℕ → State → Result Reading Refusal
+answer_by false t s = Ok (More t s)
+answer_by true t s = Ok (Line t s)
 
-record Came (complete : Bool) (x : Answer) : Type 0 where
+record Came (complete : Bool) (x : Result Reading Refusal) : Type 0 where
   taken : ℕ
   after : State
   is : x ≡ answer_by complete taken after
 
-came : (complete : Bool) (was : ReaderState) (x : Answer) → ((n : ℕ) → x ≡ Refused n → zero < n) → (read_given was x).refused ≡ 0 → (read_given was x).complete ≡ complete → Came complete x
+came : (complete : Bool) (was : ReaderState) (x : Result Reading Refusal) → (read_given was x).refused ≡ 0 → (read_given was x).complete ≡ complete → Came complete x
 unfolding read_given refused_read
-came complete was (Refused n) some none c = let h = some n refl in absurd (omega arith)
-came false was (More t s) some none c = record { taken = t; after = s; is = refl }
-came true was (More t s) some none c = absurd (false≢true c)
-came false was (Line t s) some none c = absurd (true≢false c)
-came true was (Line t s) some none c = record { taken = t; after = s; is = refl }
+came complete was (Err e) none c = absurd (number_some e none)
+came false was (Ok (More t s)) none c = record { taken = t; after = s; is = refl }
+came true was (Ok (More t s)) none c = absurd (false≢true c)
+came false was (Ok (Line t s)) none c = absurd (true≢false c)
+came true was (Ok (Line t s)) none c = record { taken = t; after = s; is = refl }
 
 brought : (complete : Bool) (was : ReaderState) (t : ℕ) (s : State) → read_given was (answer_by complete t s) ≡ record { refused = 0; complete = complete; taken = t; state = kept_of s }
 unfolding read_given
@@ -67,7 +53,7 @@ module _ (f setting : ℕ) where
   pub sides : (complete : Bool) (s : State) (r : ReaderState) (p buf : List ℕ) → r ≡ kept_of s
       → (read_of f setting r p buf).refused ≡ 0 → (read_of f setting r p buf).complete ≡ complete → Sides complete s r p buf
   sides complete s r p buf i none c =
-      by (came complete (kept_of s) (read_answer f setting s p buf) (refused_some f setting s p buf)
+      by (came complete (kept_of s) (read_answer f setting s p buf)
       (ap (λ (y : ReadAnswer). y.refused) (sym same) ∙ none) (ap (λ (y : ReadAnswer). y.complete) (sym same) ∙ c))
     where
       same : read_of f setting r p buf ≡ read_given (kept_of s) (read_answer f setting s p buf)

@@ -6,7 +6,7 @@ use lib.ListN.{length}
 use Rattle.bits.specs.Bits.{in_arow}
 use Rattle.formats.specs.Formats.{format_of, check_start}
 use Rattle.formats.specs.declared.Format.{Format}
-use Rattle.formats.specs.declared.FormatAnswer.TheVariants.{Is}
+use Rattle.std.specs.Prelude.{Ok}
 use Rattle.reader_record.specs.Records.{fresh_state}
 use Rattle.reader_refusals.specs.Refusing.{largest_setting}
 use Rattle.demands.specs.RoundTrip.{Recording}
@@ -16,7 +16,7 @@ use Rattle.rack_recording.specs.Recording.{kept_of}
 use Rattle.rack.specs.Run.{Played}
 use Rattle.rack.proofs.Played.{to_driven}
 
-pub other_cards_across : (n : ℕ) (f : Format) → format_of n ≡ Is f → (m : ℕ) (g : Format) → format_of m ≡ Is g → (check_start n ≡ check_start m → ⊥) → (setting : ℕ) → setting ≤ largest_setting
+pub other_cards_across : (n : ℕ) (f : Format) → format_of n ≡ Ok f → (m : ℕ) (g : Format) → format_of m ≡ Ok g → (check_start n ≡ check_start m → ⊥) → (setting : ℕ) → setting ≤ largest_setting
     → (lend : ℕ → List ℕ → List ℕ) → ((k : ℕ) (buf : List ℕ) → 44356 ≤ length buf → 44356 ≤ length (lend k buf)) → (first : List ℕ) → 44356 ≤ length first
     → {ls : List (List ℕ)} {recording : List ℕ} → Recording n ls recording
     → (ps : List (List ℕ)) → in_arow ps ≡ recording → (out : List (List ℕ)) → Played m setting lend 0 (kept_of fresh_state) first ps out → OtherCard n m ls out

@@ -8,13 +8,18 @@ use lib.ListN.{length, take, drop}
 use Rattle.bits.specs.Bits.{in_arow}
 use Rattle.formats.specs.Formats.{format_of}
 use Rattle.formats.specs.declared.Format.{Format}
-use Rattle.formats.specs.declared.FormatAnswer.TheVariants.{Is}
+use Rattle.std.specs.Prelude.{Result, Ok, Err}
+use Rattle.refusals.specs.declared.Refusal.{Refusal}
+use Rattle.refusals.specs.Refusals.{answer_number}
+use Rattle.refusals.proofs.Numbers.{number_some}
+use Rattle.desk.specs.declared.Part.{Part}
+use Rattle.desk.specs.Calls.{seen_answer, part_seen}
 use Rattle.reader_record.specs.declared.State.{State}
 use Rattle.reader_record.specs.Records.{fresh_state}
 use Rattle.reader_refusals.specs.Refusing.{largest_setting}
 use Rattle.reader.specs.Read.{read_left}
 use Rattle.desk_record.specs.declared.Desk.{Desk}
-use Rattle.feeding.specs.Area.{slot_at, put_slot}
+use Rattle.feeding.specs.Area.{slot_at, put_slot, part_of}
 use Rattle.feeding.specs.Feeder as feeder
 use Rattle.feeding.specs.Feeder.{Feeder}
 use Rattle.feeding.specs.OneLine.{OneSlot}
@@ -22,7 +27,7 @@ use Rattle.feeding.proofs.Class.{class_seen}
 use Rattle.rack_recording.specs.declared.ReaderState.{ReaderState}
 use Rattle.rack_recording.specs.Recording.{kept_of, line_left}
 use Rattle.rack_desk.specs.declared.LineDesk.{LineDesk}
-use Rattle.rack_desk.specs.LineDesk.{desk_handed, seen_of}
+use Rattle.rack_desk.specs.LineDesk.{desk_handed, part_given, seen_of}
 use Rattle.rack.specs.ClassRun as run
 use Rattle.rack.specs.ClassRun.{ClassPlayed}
 use Rattle.rack.proofs.Calls.{Sides, sides}
@@ -83,10 +88,16 @@ module _ (f setting count : ℕ) (first : List ℕ) (pieces : List (List ℕ)) w
       let w = behind r in
       moved w.state w.is _ _ (release_long b w.long (length area) c i n) (release_through b w.long (length area) c i n) (feeder.Feeder.releases c i n w.feeds)
 
-module _ (f : ℕ) (format : Format) (ok : format_of f ≡ Is format) (setting : ℕ) (small : setting ≤ largest_setting) (count : ℕ) (first : List ℕ) (pieces : List (List ℕ))
+module _ (f : ℕ) (format : Format) (ok : format_of f ≡ Ok format) (setting : ℕ) (small : setting ≤ largest_setting) (count : ℕ) (first : List ℕ) (pieces : List (List ℕ))
     {k : ℕ} {z : ReaderState} {b : LineDesk} {area : List ℕ} {rest : List (List ℕ)} (r : ClassPlayed f setting count first pieces k z b area rest) where
   -- A LINE IS A LINE: the part of the area that `hansobrik_seen` gives consumer c under serial n
   pub class_across : (c i n : ℕ) → (seen_of b (length area) c i n).refused ≡ 0
       → OneSlot f setting n (in_arow pieces) (take ((seen_of b (length area) c i n).to - (seen_of b (length area) c i n).from) (drop (seen_of b (length area) c i n).from area))
   unfolding seen_of
-  class_across c i n e = class_seen f format ok setting small count first pieces (behind f setting count first pieces r).feeds c i n e
+  class_across c i n e =
+      given (seen_answer (desk_handed b) (length area) c i n) (class_seen f format ok setting small count first pieces (behind f setting count first pieces r).feeds c i n) e
+    where
+      given : (a : Result Part Refusal) → (answer_number a ≡ 0 → OneSlot f setting n (in_arow pieces) (part_of (part_seen a) area)) → (part_given a).refused ≡ 0
+          → OneSlot f setting n (in_arow pieces) (take ((part_given a).to - (part_given a).from) (drop (part_given a).from area))
+      given (Ok p) h z = h refl
+      given (Err x) h z = absurd (number_some x z)

@@ -7,7 +7,7 @@ use lib.ListN.{length, get_or}
 use Rattle.bits.specs.Bits.{in_arow}
 use Rattle.formats.specs.Formats.{format_of}
 use Rattle.formats.specs.declared.Format.{Format}
-use Rattle.formats.specs.declared.FormatAnswer.TheVariants.{Is}
+use Rattle.std.specs.Prelude.{Ok}
 use Rattle.reader_record.specs.Records.{fresh_state}
 use Rattle.reader_refusals.specs.Refusing.{largest_setting}
 use Rattle.demands.specs.RoundTrip.{Recording, ComeBack}
@@ -19,7 +19,7 @@ use Rattle.rack.specs.Run.{Played, MomentAt, StandingAt}
 use Rattle.rack.proofs.Moments.{through}
 use Rattle.rack.proofs.Played.{to_driven}
 
-module _ (n : ℕ) (f : Format) (e : format_of n ≡ Is f) (setting : ℕ) (small : setting ≤ largest_setting)
+module _ (n : ℕ) (f : Format) (e : format_of n ≡ Ok f) (setting : ℕ) (small : setting ≤ largest_setting)
     (lend : ℕ → List ℕ → List ℕ) (long : (k : ℕ) (buf : List ℕ) → 44356 ≤ length buf → 44356 ≤ length (lend k buf)) (first : List ℕ) (room : 44356 ≤ length first)
     {ls : List (List ℕ)} {recording : List ℕ} (r : Recording n ls recording) where
   pub demand_2_across : (ps : List (List ℕ)) → in_arow ps ≡ recording → (out : List (List ℕ)) → Played n setting lend 0 (kept_of fresh_state) first ps out → ComeBack n ls out

@@ -6,14 +6,15 @@ use mathlib.Core.Path.{◌≡◌, refl, sym, ap, ap₂, ◌∙◌}
 use Prim.Native.Nat.{ℕ, zero, ◌-◌, ◌*◌, ◌≤◌, ◌<◌}
 use native.Mathlib.Omega.{arith}
 use lib.ListN.{length, take, drop, length-append, length-drop}
+use Rattle.std.specs.Prelude.{Result, Ok}
+use Rattle.refusals.specs.declared.Refusal.{Refusal}
 use Rattle.bits.specs.Bits.{bits_of, in_arow}
 use Rattle.refusals.proofs.Words.{none_second}
 use Rattle.formats.specs.declared.Format.{Format}
-use Rattle.formats.specs.declared.FormatAnswer.TheVariants.{Is}
 use Rattle.formats.specs.Formats.{format_of, format_refusal}
 use Rattle.reader_bits.specs.Lines.{lines}
 use Rattle.reader_record.specs.Records.{fresh_state}
-use Rattle.reader_line.specs.declared.Answer.{Answer}
+use Rattle.reader_line.specs.declared.Reading.{Reading}
 use Rattle.reader.specs.Read.{read_answer}
 use Rattle.reader_refusals.specs.Refusing.{largest_setting, setting_refusal}
 use Rattle.cuts.proofs.Advances.{takes_most, takes_one, takes_none}
@@ -48,19 +49,19 @@ takes_one_at : (f setting : ℕ) (r : ReaderState) (p buf : List ℕ) → (read_
 unfolding refused_read
 takes_one_at f setting r p buf =
     read_ways f setting r p buf (λ (a : ReadAnswer) (after : List ℕ). a.refused ≡ 0 → zero < length p → 1 ≤ a.taken) (λ e l. absurd (turned f setting e))
-    (λ k e l. let x : Answer = read_answer f setting (handed_of r) p buf in omega (arith, given_taken r x, takes_one f setting (handed_of r) p buf (sym (given_refused r x) ∙ e) l))
+    (λ k e l. let x : Result Reading Refusal = read_answer f setting (handed_of r) p buf in omega (arith, given_taken r x, takes_one f setting (handed_of r) p buf (sym (given_refused r x) ∙ e) l))
 
 takes_none_at : (f setting : ℕ) (r : ReaderState) (buf : List ℕ) → (read_of f setting r [] buf).refused ≡ 0 → Unchanged r buf (read_of f setting r [] buf) (line_left f setting r [] buf)
 unfolding refused_read read_given
 takes_none_at f setting r buf =
     read_ways f setting r [] buf (λ (a : ReadAnswer) (after : List ℕ). a.refused ≡ 0 → Unchanged r buf a after) (λ e. absurd (turned f setting e))
     (λ k e.
-    let x : Answer = read_answer f setting (handed_of r) [] buf in
+    let x : Result Reading Refusal = read_answer f setting (handed_of r) [] buf in
     let n = takes_none f setting (handed_of r) buf (sym (given_refused r x) ∙ e) in
     record {
-      given_back = ap (λ (y : Answer). (read_given r y).state) n.0 ∙ k;
-      taken_none = ap (λ (y : Answer). (read_given r y).taken) n.0;
-      none_complete = ap (λ (y : Answer). (read_given r y).complete) n.0;
+      given_back = ap (λ (y : Result Reading Refusal). (read_given r y).state) n.0 ∙ k;
+      taken_none = ap (λ (y : Result Reading Refusal). (read_given r y).taken) n.0;
+      none_complete = ap (λ (y : Result Reading Refusal). (read_given r y).complete) n.0;
       buffer = n.1;
     })
 
@@ -117,6 +118,6 @@ module _ (f setting : ℕ) (lend : ℕ → List ℕ → List ℕ) (first : List 
 
 -- DEMAND 3, of the calls that C and Rust make: a record with 0 in every field, one format, one setting, a full-size buffer, exchanged between
 -- lines for any other full-size one as the caller likes
-pub demand_3_across : (f : ℕ) (format : Format) → format_of f ≡ Is format → (setting : ℕ) → setting ≤ largest_setting
+pub demand_3_across : (f : ℕ) (format : Format) → format_of f ≡ Ok format → (setting : ℕ) → setting ≤ largest_setting
     → (lend : ℕ → List ℕ → List ℕ) → ((k : ℕ) (buf : List ℕ) → 44356 ≤ length buf → 44356 ≤ length (lend k buf)) → (first : List ℕ) → 44356 ≤ length first → Demand3 f setting lend first
 demand_3_across f format ok setting small lend long first room = across f setting lend first (demand_3_all f format ok setting small lend long first room)

@@ -9,7 +9,7 @@ use lib.ListN.{length}
 use Rattle.bits.specs.Bits.{bits_of, in_arow}
 use Rattle.formats.specs.Formats.{format_of}
 use Rattle.formats.specs.declared.Format.{Format}
-use Rattle.formats.specs.declared.FormatAnswer.TheVariants.{Is}
+use Rattle.std.specs.Prelude.{Ok}
 use Rattle.reader_bits.specs.Lines.{lines, recorded}
 use Rattle.reader_record.specs.Records.{fresh_state}
 use Rattle.reader_refusals.specs.Refusing.{largest_setting}
@@ -19,7 +19,7 @@ use Rattle.rack_recording.specs.Recording.{kept_of}
 use Rattle.rack.specs.Run.{Played}
 use Rattle.rack.proofs.Demand3.{demand_3_across}
 
-module _ (n : ℕ) (f : Format) (e : format_of n ≡ Is f)
+module _ (n : ℕ) (f : Format) (e : format_of n ≡ Ok f)
     (lend : ℕ → List ℕ → List ℕ) (long : (j : ℕ) (buf : List ℕ) → 44356 ≤ length buf → 44356 ≤ length (lend j buf)) (buf : List ℕ) (room : 44356 ≤ length buf)
     (rs : List Received) (ps : List (List ℕ)) (cut : bits_of (in_arow ps) ≡ received_of rs) (out : List (List ℕ)) where
   pub iced_across : (k : ℕ) → k ≤ largest_setting → Iced (Leading k) f [] [] rs → Played n k lend 0 (kept_of fresh_state) buf ps out ↔ (out ≡ lines_in rs)

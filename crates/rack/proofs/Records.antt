@@ -7,11 +7,14 @@ use Prim.Native.Nat.{ℕ, zero, ◌≤◌, ◌<◌}
 use native.Mathlib.Omega.{arith}
 use lib.Dec.{ltb, eqb}
 use borrow.Author.Tests.{ltb-false, eqb-true, eqb-false}
+use Rattle.std.specs.Prelude.{Result, Ok, Err}
+use Rattle.refusals.specs.declared.Refusal.{Refusal}
+use Rattle.refusals.specs.Refusals.{answer_number}
 use Rattle.reader_record.specs.declared.State.{State}
-use Rattle.reader_line.specs.declared.Answer.{Answer}
-use Rattle.reader_line.specs.declared.Answer.TheVariants.{Refused, More, Line}
+use Rattle.reader_line.specs.declared.Reading.{Reading}
+use Rattle.reader_line.specs.declared.Reading.TheVariants.{More, Line}
 use Rattle.reader_record.specs.Records.{fresh_state}
-use Rattle.reader.specs.Read.{read_answer, read_left, refusal_of, taken_by}
+use Rattle.reader.specs.Read.{read_answer, read_left, taken_by}
 use Rattle.cuts.proofs.Keeps.{refused_stays}
 use Rattle.rack_recording.specs.declared.ReaderState.{ReaderState}
 use Rattle.rack_recording.specs.declared.ReadAnswer.{ReadAnswer}
@@ -93,17 +96,17 @@ module _ (f setting : ℕ) (r : ReaderState) (piece buf : List ℕ) (P : ReadAns
       go false e = served (kept_handed r (ltb-false 1 r.in_line e))
 
 -- what an answer brings across
-pub given_refused : (was : ReaderState) (x : Answer) → (read_given was x).refused ≡ refusal_of x
+pub given_refused : (was : ReaderState) (x : Result Reading Refusal) → (read_given was x).refused ≡ answer_number x
 unfolding read_given refused_read
-given_refused was (Refused n) = refl
-given_refused was (More t s) = refl
-given_refused was (Line t s) = refl
+given_refused was (Err n) = refl
+given_refused was (Ok (More t s)) = refl
+given_refused was (Ok (Line t s)) = refl
 
-pub given_taken : (was : ReaderState) (x : Answer) → (read_given was x).taken ≡ taken_by x
+pub given_taken : (was : ReaderState) (x : Result Reading Refusal) → (read_given was x).taken ≡ taken_by x
 unfolding read_given refused_read
-given_taken was (Refused n) = refl
-given_taken was (More t s) = refl
-given_taken was (Line t s) = refl
+given_taken was (Err n) = refl
+given_taken was (Ok (More t s)) = refl
+given_taken was (Ok (Line t s)) = refl
 
 -- A REFUSED CALL gives back the record that it was handed, takes nothing, and leaves the buffer
 pub read_refused : (f setting : ℕ) (r : ReaderState) (piece buf : List ℕ) → zero < (read_of f setting r piece buf).refused → Unchanged r buf (read_of f setting r piece buf) (line_left f setting r piece buf)
@@ -113,7 +116,7 @@ read_refused f setting r piece buf =
     (λ h. record { given_back = refl; taken_none = refl; none_complete = refl; buffer = refl })
     (λ k. by (read_answer f setting (handed_of r) piece buf) refl)
   where
-    by : (x : Answer) → read_answer f setting (handed_of r) piece buf ≡ x → zero < (read_given r x).refused → Unchanged r buf (read_given r x) (read_left f setting (handed_of r) piece buf)
-    by (Refused n) e h = record { given_back = refl; taken_none = refl; none_complete = refl; buffer = refused_stays f setting (handed_of r) piece buf n e }
-    by (More t s) e h = absurd (omega arith)
-    by (Line t s) e h = absurd (omega arith)
+    by : (x : Result Reading Refusal) → read_answer f setting (handed_of r) piece buf ≡ x → zero < (read_given r x).refused → Unchanged r buf (read_given r x) (read_left f setting (handed_of r) piece buf)
+    by (Err n) e h = record { given_back = refl; taken_none = refl; none_complete = refl; buffer = refused_stays f setting (handed_of r) piece buf n e }
+    by (Ok (More t s)) e h = absurd (omega arith)
+    by (Ok (Line t s)) e h = absurd (omega arith)

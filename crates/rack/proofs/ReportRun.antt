@@ -8,7 +8,7 @@ use Prim.Native.Nat.{ℕ, suc, ◌≤◌}
 use lib.ListN.{length, drop}
 use Rattle.formats.specs.Formats.{format_of}
 use Rattle.formats.specs.declared.Format.{Format}
-use Rattle.formats.specs.declared.FormatAnswer.TheVariants.{Is}
+use Rattle.std.specs.Prelude.{Ok}
 use Rattle.bits.specs.Bits.{in_arow}
 use Rattle.reader_bits.specs.Lines.{recorded}
 use Rattle.reader_record.specs.declared.State.{State}
@@ -18,7 +18,7 @@ use Rattle.reader_refusals.specs.Refusing.{largest_setting}
 use Rattle.cuts.specs.Driven.{lent_for}
 use Rattle.report_record.specs.declared.Report.{Report}
 use Rattle.report_record.specs.Report.{empty_report}
-use Rattle.report.specs.Calls.{with_line_answer}
+use Rattle.report.specs.Calls.{with_line_answer, report_after}
 use Rattle.passes.specs.Passes as passes
 use Rattle.passes.specs.Passes.{Reporting}
 use Rattle.passes.proofs.Laws.{Shaped, empty_shaped}
@@ -83,18 +83,18 @@ module _ (f setting : ℕ) (lend : ℕ → List ℕ → List ℕ) where
   to_run {k} {z} {buf} (run.ReportPlayed.got {p = p} {ps = ps} none c d) s i r h e =
       let b : Both f setting lend true k s z p buf = both f setting lend true k s z p buf i none c in
       let left : List ℕ = line_left f setting z p (lent_at lend k z buf) in
-      let next : Report = (with_line_answer f r left).report in
+      let next : Report = report_after r (with_line_answer f r left) in
       let x = to_run d b.after b.brings next (line_shaped f r left h) (ap (λ (y : PassReport). (with_line_of f y left).report) e ∙ after_line f r left h) in
       record {
         last = x.last;
         run = passes.Reporting.got b.is
-            (subst (λ (y : List ℕ). Reporting f setting lend (suc k) b.after y (drop b.taken p ∷ ps) (with_line_answer f r y).report x.last) (left_same f setting lend k s z p buf i)
+            (subst (λ (y : List ℕ). Reporting f setting lend (suc k) b.after y (drop b.taken p ∷ ps) (report_after r (with_line_answer f r y)) x.last) (left_same f setting lend k s z p buf i)
             (subst (λ (t : ℕ). Reporting f setting lend (suc k) b.after left (drop t p ∷ ps) next x.last) b.took x.run));
         is = x.is;
       }
 
 -- THE REPORT OF ANY CUT RECORDING across the boundary: a caller may end with it, and with no other
-pub report_across : (f : ℕ) (format : Format) → format_of f ≡ Is format → (setting : ℕ) → setting ≤ largest_setting
+pub report_across : (f : ℕ) (format : Format) → format_of f ≡ Ok format → (setting : ℕ) → setting ≤ largest_setting
     → (lend : ℕ → List ℕ → List ℕ) → ((k : ℕ) (b : List ℕ) → 44356 ≤ length b → 44356 ≤ length (lend k b)) → (buf : List ℕ) → 44356 ≤ length buf
     → (ps : List (List ℕ)) (q : PassReport)
     → ReportPlayed f setting lend 0 (kept_of fresh_state) buf ps (report_given empty_report) q ↔ (q ≡ report_given (so_far f (recorded setting (in_arow ps))))

@@ -6,16 +6,17 @@ use mathlib.Core.Path.{◌≡◌, refl, ap, ◌∙◌}
 use Prim.Native.Nat.{ℕ, zero, suc, ◌<◌}
 use lib.Dec.{leb}
 use lib.ListN.{length, replicate}
-use Rattle.refusals.specs.Refusals.{kept}
+use Rattle.std.specs.Prelude.{Option, Some, None, Result, Ok, Err}
+use Rattle.refusals.specs.declared.Refusal.{Refusal}
+use Rattle.refusals.specs.Refusals.{answered, refuses}
 use Rattle.report_record.specs.declared.Range.{Range}
-use Rattle.report_record.specs.declared.Range.TheVariants.{Absent, From}
 use Rattle.report_record.specs.declared.Channel.{Channel}
 use Rattle.report_record.specs.declared.Report.{Report}
 use Rattle.report_record.specs.Sums.{row_of}
 use Rattle.report_record.specs.Report.{no_tally, no_channel, tally_at, channel_at, empty_report}
 use Rattle.report_record.proofs.Rows.{row_at, row_same, row_list, all_made, and_both}
 use Rattle.report_record.proofs.Adding.{channel_same}
-use Rattle.report.specs.Calls.{with_line_answer, with_line_refusal, together_answer}
+use Rattle.report.specs.Calls.{with_line_answer, with_line_refusal, together_answer, report_after}
 use Rattle.passes.proofs.Laws.{report_same, Shaped, added_shaped}
 use Rattle.rack_report.specs.declared.ChannelTally.{ChannelTally}
 use Rattle.rack_report.specs.declared.ReportAnswer.{ReportAnswer}
@@ -34,9 +35,9 @@ pixels_given r i p = row_at (λ (j : ℕ). channel_given (channel_at r j)) 4 i n
 channel_back : (c : Channel) → channel_handed (channel_given c) ≡ c
 channel_back c = channel_same refl refl (by c.range)
   where
-    by : (x : Range) → (channel_handed (channel_given (record { count = c.count; sum = c.sum; range = x }))).range ≡ x
-    by Absent = refl
-    by (From lo hi) = refl
+    by : (x : Option Range) → (channel_handed (channel_given (record { count = c.count; sum = c.sum; range = x }))).range ≡ x
+    by None = refl
+    by (Some r) = refl
 
 given_lines : (r : Report) → (report_given r).lines ≡ r.lines
 unfolding report_given
@@ -53,9 +54,9 @@ pub given_marked : (r : Report) → marked (report_given r) ≡ true
 unfolding marked
 given_marked r = all_made (λ (i : ℕ). leb (pixels_at (report_given r) i).present 1) 4 (λ i p. ap (λ (c : ChannelTally). leb c.present 1) (pixels_given r i p) ∙ by (channel_at r i).range)
   where
-    by : (x : Range) → leb (mark_of x) 1 ≡ true
-    by Absent = refl
-    by (From lo hi) = refl
+    by : (x : Option Range) → leb (mark_of x) 1 ≡ true
+    by None = refl
+    by (Some r) = refl
 
 -- a report of no lines has 0 in every field
 pub empty_zero : report_given empty_report ≡ record { lines = 0; sectors = replicate 12 no_sector; channels = replicate 4 no_pixels }
@@ -72,20 +73,18 @@ pub together_through : (a b : Report) → Shaped a → Shaped b → together_of 
 unfolding together_of
 together_through a b s t = rw (and_both (marked (report_given a)) (marked (report_given b)) (given_marked a) (given_marked b), handed_given a s, handed_given b t) refl
 
-kept_given : (n : ℕ) (was becomes : Report) → kept n (report_given was) (report_given (kept n was becomes)) ≡ report_given (kept n was becomes)
-unfolding kept
-kept_given zero was becomes = refl
-kept_given (suc n) was becomes = refl
-
 -- so the record after a line is the one that the call gives
-pub after_line : (f : ℕ) (r : Report) (line : List ℕ) → Shaped r → (with_line_of f (report_given r) line).report ≡ report_given (with_line_answer f r line).report
-unfolding answer_given with_line_answer
-after_line f r line s = ap (λ (a : ReportAnswer). a.report) (with_line_through f r line s) ∙ kept_given (with_line_refusal f r (length line)) r _
+pub after_line : (f : ℕ) (r : Report) (line : List ℕ) → Shaped r → (with_line_of f (report_given r) line).report ≡ report_given (report_after r (with_line_answer f r line))
+after_line f r line s = ap (λ (a : ReportAnswer). a.report) (with_line_through f r line s) ∙ by (with_line_answer f r line)
+  where
+    by : (a : Result Report Refusal) → (answer_given (report_given r) a).report ≡ report_given (report_after r a)
+    by (Ok x) = refl
+    by (Err e) = refl
 
-pub line_shaped : (f : ℕ) (r : Report) (line : List ℕ) → Shaped r → Shaped (with_line_answer f r line).report
-unfolding with_line_answer
+pub line_shaped : (f : ℕ) (r : Report) (line : List ℕ) → Shaped r → Shaped (report_after r (with_line_answer f r line))
+unfolding with_line_answer answered
 line_shaped f r line s = by (with_line_refusal f r (length line)) _ (added_shaped r _)
   where
-    by : (n : ℕ) (x : Report) → Shaped x → Shaped (kept n r x)
-    by zero x h = unfold kept in h
-    by (suc n) x h = unfold kept in s
+    by : (n : ℕ) (x : Report) → Shaped x → Shaped (report_after r (answered refuses n (Ok x)))
+    by zero x h = h
+    by (suc n) x h = s

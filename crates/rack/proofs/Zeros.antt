@@ -2,191 +2,161 @@
 use mathlib.Core.Bool.{Bool, true, false, cond, ◌&&◌}
 use mathlib.Core.List.{List}
 use mathlib.Core.Path.{◌≡◌, refl, ap, ap₂, ◌∙◌}
-use Prim.Native.Nat.{ℕ, zero, suc, ◌+◌, ◌*◌, ◌<◌}
+use Prim.Native.Nat.{ℕ, zero, suc, ◌<◌}
 use native.Mathlib.Nat.{zero-lt-suc}
-use lib.ListN.{length, replicate}
-use Rattle.refusals.specs.Refusals.{kept, answered}
-use Rattle.refusals.proofs.Words.{kept_some}
-use Rattle.formats.specs.declared.FormatAnswer as formats
-use Rattle.formats.specs.declared.FormatAnswer.TheVariants as format
+use lib.Ieee as Ieee
+use Rattle.std.specs.Prelude.{Result, Ok, Err}
+use Rattle.refusals.specs.declared.Refusal.{Refusal}
+use Rattle.refusals.specs.Refusals.{kept, answered, refuses}
+use Rattle.formats.specs.declared.Format.{Format}
 use Rattle.scramble.specs.Step.{step_refusal, step_answer, register_left}
 use Rattle.scramble.specs.Register.{new_bit, next_register}
-use Rattle.scramble.specs.declared.StepBit.TheVariants as step
-use Rattle.sync.specs.declared.SyncPut.{SyncPut}
-use Rattle.sync.specs.declared.SyncPut.TheVariants as sync
-use Rattle.writer.specs.declared.Written.{Written}
-use Rattle.writer.specs.declared.Written.TheVariants as written
-use Rattle.sectors.specs.Calls.{answers_refusal, answers_answer}
-use Rattle.sectors.specs.declared.check.Counted.{Counted}
-use Rattle.sectors.specs.declared.check.Counted.TheVariants as counted
-use Rattle.visible.specs.declared.strip.Stripped.{Stripped}
-use Rattle.visible.specs.declared.strip.Stripped.TheVariants as stripped
-use Rattle.numbers.specs.declared.Integer.{Integer}
-use Rattle.numbers.specs.declared.Integer.TheVariants as integer
-use Rattle.numbers.specs.declared.Bcd.{Bcd}
-use Rattle.numbers.specs.declared.Bcd.TheVariants as bcd
-use Rattle.numbers.specs.declared.Real.{Real}
-use Rattle.numbers.specs.declared.Real.TheVariants as real
-use Rattle.floats.specs.declared.Float.{Float}
-use Rattle.floats.specs.declared.Float.TheVariants as float
-use Rattle.document.specs.declared.modes.Scan.{Scan}
-use Rattle.document.specs.declared.modes.Scan.TheVariants as scan
-use Rattle.document.specs.declared.modes.Scanner.{Scanner}
-use Rattle.document.specs.declared.modes.Scanner.TheVariants as scanner
+use Rattle.numbers.specs.declared.R.{R}
+use Rattle.document.specs.declared.modes.ScanMode.{ScanMode}
+use Rattle.document.specs.declared.modes.Mirror.{Mirror}
 use Rattle.document.specs.declared.segments.SubCommutation.{SubCommutation}
-use Rattle.document.specs.declared.segments.SubCommutation.TheVariants as sub
-use Rattle.document_stamps.specs.declared.lines.Numbered.{Numbered}
-use Rattle.document_stamps.specs.declared.lines.Numbered.TheVariants as numbered
-use Rattle.document_stamps.specs.declared.dates.Dated.{Dated}
-use Rattle.document_stamps.specs.declared.dates.Dated.TheVariants as dated
-use Rattle.segments.specs.declared.Added.{Added}
-use Rattle.segments.specs.declared.Added.TheVariants as added
-use Rattle.entries.specs.declared.revision.Revised.{Revised}
-use Rattle.entries.specs.declared.revision.Revised.TheVariants as revised
+use Rattle.document_stamps.specs.declared.lines.LineNumbers.{LineNumbers}
+use Rattle.bcd_dates.specs.declared.dates.DateTime.{DateTime}
+use Rattle.segments.specs.declared.Placed.{Placed}
 use Rattle.calibration.specs.declared.Level.{Level}
-use Rattle.calibration.specs.declared.Level.TheVariants as level
-use Rattle.calibration.specs.declared.LevelF64.{LevelF64}
-use Rattle.calibration.specs.declared.LevelF64.TheVariants as level_f64
+use Rattle.grid_points.specs.declared.Grid.{Grid}
+use Rattle.entries.specs.declared.orbit.Orbit.{Orbit}
 use Rattle.rack_blocks.specs.declared.AssemblyRecord.{AssemblyRecord}
-use Rattle.entries.specs.declared.mapping.Mapped.{Mapped}
-use Rattle.entries.specs.declared.mapping.Mapped.TheVariants as mapped
-use Rattle.entries.specs.declared.orbit.Orbital.{Orbital}
-use Rattle.entries.specs.declared.orbit.Orbital.TheVariants as orbital
 use Rattle.rack_number.specs.Number.{count_given, integer_given, bcd_given, real_given, float_given}
 use Rattle.rack_ground.specs.Ground.{format_given, step_given, sync_given}
 use Rattle.rack_recording.specs.declared.ReaderState.{ReaderState}
 use Rattle.rack_recording.specs.declared.ReadAnswer.{ReadAnswer}
 use Rattle.rack_recording.specs.Recording.{read_of, written_given}
 use Rattle.rack_sector.specs.Sector.{twelve_given, filler_given, strip_given}
-use Rattle.report.specs.declared.Reported.{Reported}
 use Rattle.report.specs.Calls.{with_line_answer, together_answer}
 use Rattle.rack_report.specs.declared.PassReport.{PassReport}
 use Rattle.rack_report.specs.declared.ReportAnswer.{ReportAnswer}
-use Rattle.formats.specs.Formats.{line_bytes}
-use Rattle.desk_record.specs.Desks.{lowest_of}
-use Rattle.desk.specs.declared.Changed.{Changed}
-use Rattle.desk_refusals.specs.Asked.{take_refusal, release_refusal}
+use Rattle.desk_record.specs.declared.Desk.{Desk}
+use Rattle.desk.specs.declared.Taken.{Taken}
+use Rattle.desk.specs.declared.Part.{Part}
+use Rattle.report_record.specs.declared.Report.{Report}
 use Rattle.desk.specs.Calls.{take_answer, publish_answer, release_answer, seen_answer}
 use Rattle.rack_desk.specs.declared.LineDesk.{LineDesk}
-use Rattle.rack_desk.specs.LineDesk.{desk_handed, desk_left, changed_given, take_of, publish_of, release_of, seen_of}
-use Rattle.rack_report.specs.PassReport.{report_handed, report_given, marked, mark_refusal, answer_given, with_line_of, together_of}
+use Rattle.rack_desk.specs.LineDesk.{desk_handed, taken_given, changed_given, part_given, take_of, publish_of, release_of, seen_of}
+use Rattle.rack_report.specs.PassReport.{report_handed, marked, mark_refusal, answer_given, with_line_of, together_of}
 use Rattle.rack_document.specs.Documentation.{name_given, scan_given, scanner_given, lines_given, date_given, segment_given}
 use Rattle.rack_blocks.specs.Assembly.{add_given, revision_given}
 use Rattle.rack_entries.specs.Entry.{level_given, level_f64_given, grid_given, orbit_given}
 use Rattle.rack.specs.Zeros.{FormatAlone, CountAlone, TwelveAlone, StripAlone, IntegerAlone, BcdAlone, RealAlone, FloatAlone, NameAlone, LinesAlone, DateAlone, SegmentAlone, RevisionAlone, LevelAlone, LevelFloatAlone, GridAlone, OrbitAlone, StepBack, ReadBack, AddBack, Zeros, ReportBack, DeskBack, TakenBack, SeenAlone}
 use Rattle.rack.proofs.Records.{read_refused}
 
-format_row : (a : formats.FormatAnswer) → FormatAlone (format_given a)
+format_row : (a : Result Format Refusal) → FormatAlone (format_given a)
 unfolding format_given
-format_row (format.Is f) h = absurd (h refl)
-format_row (format.Refused n) h = refl
+format_row (Ok f) h = absurd (h refl)
+format_row (Err e) h = refl
 
-sync_row : (a : SyncPut) → CountAlone (sync_given a)
+sync_row : (a : Result ℕ Refusal) → CountAlone (sync_given a)
 unfolding sync_given count_given
-sync_row (sync.Put k) h = absurd (h refl)
-sync_row (sync.Refused n) h = refl
+sync_row (Ok k) h = absurd (h refl)
+sync_row (Err e) h = refl
 
-written_row : (a : Written) → CountAlone (written_given a)
+written_row : (a : Result ℕ Refusal) → CountAlone (written_given a)
 unfolding written_given count_given
-written_row (written.Put k) h = absurd (h refl)
-written_row (written.Refused n) h = refl
+written_row (Ok k) h = absurd (h refl)
+written_row (Err e) h = refl
 
-filler_row : (a : Counted) → CountAlone (filler_given a)
+filler_row : (a : Result ℕ Refusal) → CountAlone (filler_given a)
 unfolding filler_given count_given
-filler_row (counted.Set k) h = absurd (h refl)
-filler_row (counted.Refused n) h = refl
+filler_row (Ok k) h = absurd (h refl)
+filler_row (Err e) h = refl
 
-strip_row : (a : Stripped) → StripAlone (strip_given a)
+twelve_row : (a : Result (List ℕ) Refusal) → TwelveAlone (twelve_given a)
+unfolding twelve_given
+twelve_row (Ok k) h = absurd (h refl)
+twelve_row (Err e) h = refl
+
+strip_row : (a : Result (List ℕ) Refusal) → StripAlone (strip_given a)
 unfolding strip_given
-strip_row (stripped.Parts k) h = absurd (h refl)
-strip_row (stripped.Refused n) h = refl
+strip_row (Ok k) h = absurd (h refl)
+strip_row (Err e) h = refl
 
-integer_row : (a : Integer) → IntegerAlone (integer_given a)
+integer_row : (a : Result ℕ Refusal) → IntegerAlone (integer_given a)
 unfolding integer_given
-integer_row (integer.Is k) h = absurd (h refl)
-integer_row (integer.Refused n) h = refl
+integer_row (Ok k) h = absurd (h refl)
+integer_row (Err e) h = refl
 
-bcd_row : (a : Bcd) → BcdAlone (bcd_given a)
+bcd_row : (a : Result ℕ Refusal) → BcdAlone (bcd_given a)
 unfolding bcd_given
-bcd_row (bcd.Is k) h = absurd (h refl)
-bcd_row (bcd.Refused n) h = refl
+bcd_row (Ok k) h = absurd (h refl)
+bcd_row (Err e) h = refl
 
-real_row : (a : Real) → RealAlone (real_given a)
+real_row : (a : Result R Refusal) → RealAlone (real_given a)
 unfolding real_given
-real_row (real.Is k) h = absurd (h refl)
-real_row (real.Refused n) h = refl
+real_row (Ok k) h = absurd (h refl)
+real_row (Err e) h = refl
 
-float_row : (a : Float) → FloatAlone (float_given a)
+float_row : (a : Result Ieee.Float Refusal) → FloatAlone (float_given a)
 unfolding float_given
-float_row (float.Is k) h = absurd (h refl)
-float_row (float.Refused n) h = refl
+float_row (Ok k) h = absurd (h refl)
+float_row (Err e) h = refl
 
-scan_row : (a : Scan) → NameAlone (scan_given a)
+scan_row : (a : Result ScanMode Refusal) → NameAlone (scan_given a)
 unfolding scan_given name_given
-scan_row (scan.Is k) h = absurd (h refl)
-scan_row (scan.Refused n) h = refl
+scan_row (Ok k) h = absurd (h refl)
+scan_row (Err e) h = refl
 
-scanner_row : (a : Scanner) → NameAlone (scanner_given a)
+scanner_row : (a : Result Mirror Refusal) → NameAlone (scanner_given a)
 unfolding scanner_given name_given
-scanner_row (scanner.Is k) h = absurd (h refl)
-scanner_row (scanner.Refused n) h = refl
+scanner_row (Ok k) h = absurd (h refl)
+scanner_row (Err e) h = refl
 
-lines_row : (a : Numbered) → LinesAlone (lines_given a)
+lines_row : (a : Result LineNumbers Refusal) → LinesAlone (lines_given a)
 unfolding lines_given
-lines_row (numbered.Is k) h = absurd (h refl)
-lines_row (numbered.Refused n) h = refl
+lines_row (Ok k) h = absurd (h refl)
+lines_row (Err e) h = refl
 
-date_row : (a : Dated) → DateAlone (date_given a)
+date_row : (a : Result DateTime Refusal) → DateAlone (date_given a)
 unfolding date_given
-date_row (dated.Is k) h = absurd (h refl)
-date_row (dated.Refused n) h = refl
+date_row (Ok k) h = absurd (h refl)
+date_row (Err e) h = refl
 
-segment_row : (a : SubCommutation) → SegmentAlone (segment_given a)
+segment_row : (a : Result SubCommutation Refusal) → SegmentAlone (segment_given a)
 unfolding segment_given
-segment_row (sub.Is s k) h = absurd (h refl)
-segment_row (sub.Refused n) h = refl
+segment_row (Ok k) h = absurd (h refl)
+segment_row (Err e) h = refl
 
-grid_row : (a : Mapped) → GridAlone (grid_given a)
+grid_row : (a : Result Grid Refusal) → GridAlone (grid_given a)
 unfolding grid_given
-grid_row (mapped.Is k) h = absurd (h refl)
-grid_row (mapped.Refused n) h = refl
+grid_row (Ok k) h = absurd (h refl)
+grid_row (Err e) h = refl
 
-orbit_row : (a : Orbital) → OrbitAlone (orbit_given a)
+orbit_row : (a : Result Orbit Refusal) → OrbitAlone (orbit_given a)
 unfolding orbit_given
-orbit_row (orbital.Is k) h = absurd (h refl)
-orbit_row (orbital.Refused n) h = refl
+orbit_row (Ok k) h = absurd (h refl)
+orbit_row (Err e) h = refl
 
-add_row : (was : AssemblyRecord) (a : Added) → AddBack was (add_given was a)
+add_row : (was : AssemblyRecord) (a : Result Placed Refusal) → AddBack was (add_given was a)
 unfolding add_given
-add_row was (added.Is p) h = absurd (h refl)
-add_row was (added.Refused n) h = refl
+add_row was (Ok p) h = absurd (h refl)
+add_row was (Err e) h = refl
 
-revision_row : (a : Revised) → RevisionAlone (revision_given a)
+revision_row : (a : Result ℕ Refusal) → RevisionAlone (revision_given a)
 unfolding revision_given
-revision_row (revised.Is v) h = absurd (h refl)
-revision_row (revised.Refused n) h = refl
+revision_row (Ok v) h = absurd (h refl)
+revision_row (Err e) h = refl
 
-level_row : (a : Level) → LevelAlone (level_given a)
+level_row : (a : Result (Level R) Refusal) → LevelAlone (level_given a)
 unfolding level_given
-level_row (level.Is v) h = absurd (h refl)
-level_row (level.Refused n) h = refl
+level_row (Ok v) h = absurd (h refl)
+level_row (Err e) h = refl
 
-level_f64_row : (a : LevelF64) → LevelFloatAlone (level_f64_given a)
+level_f64_row : (a : Result (Level Ieee.Float) Refusal) → LevelFloatAlone (level_f64_given a)
 unfolding level_f64_given
-level_f64_row (level_f64.Is v) h = absurd (h refl)
-level_f64_row (level_f64.Refused n) h = refl
+level_f64_row (Ok v) h = absurd (h refl)
+level_f64_row (Err e) h = refl
 
 step_row : (register : ℕ) → StepBack register (step_given (step_answer register) (register_left register))
 unfolding step_given step_answer register_left answered kept
 step_row register = go (step_refusal register)
   where
-    go : (k : ℕ) → StepBack register (step_given (answered step.Refused k (step.Bit (new_bit register))) (kept k register (next_register register)))
+    go : (k : ℕ) → StepBack register (step_given (answered refuses k (Ok (new_bit register))) (kept k register (next_register register)))
     go zero h = absurd (h refl)
     go (suc k) h = refl
-
-twelve_row : (f : ℕ) (line : List ℕ) → TwelveAlone (twelve_given (answers_answer f line))
-unfolding twelve_given answers_answer
-twelve_row f line h = ap (λ (l : List ℕ). record { refused = answers_refusal f (length line); answers = l }) (kept_some (answers_refusal f (length line)) (replicate 12 0) _ h)
 
 parts : (a : ReadAnswer) (b : Bool) (t : ℕ) (s : ReaderState) → a.complete ≡ b → a.taken ≡ t → a.state ≡ s → a ≡ record { refused = a.refused; complete = b; taken = t; state = s }
 parts a b t s p q r =
@@ -200,9 +170,9 @@ read_row f setting s piece line h = let u = read_refused f setting s piece line 
     some zero h = absurd (h refl)
     some (suc n) h = zero-lt-suc n
 
-given_back : (was : PassReport) (a : Reported) → ReportBack was (answer_given was a)
-unfolding answer_given
-given_back was a h = λ i. record { refused = a.refused; report = kept_some a.refused was (report_given a.report) h i }
+given_back : (was : PassReport) (a : Result Report Refusal) → ReportBack was (answer_given was a)
+given_back was (Ok r) h = absurd (h refl)
+given_back was (Err e) h = refl
 
 marked_or : (t : Bool) (was : PassReport) (n : ℕ) (a : ReportAnswer) → ReportBack was a → ReportBack was (cond t a (record { refused = n; report = was }))
 marked_or true was n a h = h
@@ -216,20 +186,17 @@ together_row : (a b : PassReport) → ReportBack a (together_of a b)
 unfolding together_of
 together_row a b = marked_or (marked a && marked b) a 12 _ (given_back a (together_answer (report_handed a) (report_handed b)))
 
-take_row : (d : LineDesk) (area : ℕ) → TakenBack d (take_of d area)
-unfolding take_of take_answer
-take_row d area h =
-    let k = take_refusal (desk_handed d) area in
-    let a = take_answer (desk_handed d) area in
-    λ i. record {
-      refused = k;
-      serial = kept_some k 0 (suc (desk_handed d).last) h i;
-      slot = kept_some k 0 (lowest_of (desk_handed d)) h i;
-      desk = kept_some k d (desk_left d a.desk a.slot) h i;
-    }
+taken_back : (d : LineDesk) (a : Result Taken Refusal) → TakenBack d (taken_given d a)
+taken_back d (Ok t) h = absurd (h refl)
+taken_back d (Err e) h = refl
 
-changed_row : (was : LineDesk) (i : ℕ) (a : Changed) → DeskBack was (changed_given was i a)
-changed_row was i a h = λ j. record { refused = a.refused; desk = kept_some a.refused was (desk_left was a.desk i) h j }
+take_row : (d : LineDesk) (area : ℕ) → TakenBack d (take_of d area)
+unfolding take_of
+take_row d area = taken_back d (take_answer (desk_handed d) area)
+
+changed_row : (was : LineDesk) (i : ℕ) (a : Result Desk Refusal) → DeskBack was (changed_given was i a)
+changed_row was i (Ok d) h = absurd (h refl)
+changed_row was i (Err e) h = refl
 
 publish_row : (d : LineDesk) (area i n : ℕ) → DeskBack d (publish_of d area i n)
 unfolding publish_of
@@ -239,11 +206,13 @@ release_row : (d : LineDesk) (area c i n : ℕ) → DeskBack d (release_of d are
 unfolding release_of
 release_row d area c i n = changed_row d i (release_answer (desk_handed d) area c i n)
 
+part_alone : (a : Result Part Refusal) → SeenAlone (part_given a)
+part_alone (Ok p) h = absurd (h refl)
+part_alone (Err e) h = refl
+
 seen_row : (d : LineDesk) (area c i n : ℕ) → SeenAlone (seen_of d area c i n)
-unfolding seen_of seen_answer
-seen_row d area c i n h =
-    let k = release_refusal (desk_handed d) area c i n in
-    λ j. record { refused = k; from = kept_some k 0 (i * line_bytes) h j; to = kept_some k 0 (i * line_bytes + line_bytes) h j }
+unfolding seen_of
+seen_row d area c i n = part_alone (seen_answer (desk_handed d) area c i n)
 
 pub zeros : Zeros
 zeros = record {

@@ -2,6 +2,7 @@
 -- One list, a row for every function of the header, with its contract as the call has it. Assumes nothing.
 use Rattle.std.specs.Prelude.{Bool, List, ◌≡◌, ℕ, length}
 use Rattle.bits.specs.Bits.{bits_of}
+use Rattle.refusals.specs.Refusals.{answer_number}
 use Rattle.formats.specs.Formats.{format_of}
 use Rattle.scramble.specs.Step.{step_answer, register_left}
 use Rattle.sync.specs.Put.{put_sync_answer, put_sync_left}
@@ -19,7 +20,7 @@ use Rattle.numbers.specs.Integers.{read_integer_answer}
 use Rattle.numbers.specs.Decimals.{read_bcd_answer}
 use Rattle.numbers.specs.Reals.{read_real_answer}
 use Rattle.floats.specs.Floats.{read_f64_answer}
-use Rattle.number_writer.specs.Written.{put_number, put_real_answer, put_real_left}
+use Rattle.number_writer.specs.Written.{put_real_answer, put_real_left}
 use Rattle.document.specs.Modes.{scan_mode_answer, scanner_select_answer}
 use Rattle.document.specs.Segments.{sub_commutation_answer}
 use Rattle.document_stamps.specs.Lines.{line_numbers_answer}
@@ -108,7 +109,7 @@ pub record UniqueAcross : Type 0 where
   pub read_bcd : (n : ℕ) (bytes : List ℕ) → One (λ (r : BcdAnswer). r ≡ bcd_given (read_bcd_answer n bytes))
   pub read_real : (n m : ℕ) (bytes : List ℕ) → One (λ (r : RealAnswer). r ≡ real_given (read_real_answer n m bytes))
   pub read_f64 : (n m : ℕ) (bytes : List ℕ) → One (λ (r : FloatAnswer). r ≡ float_given (read_f64_answer n m bytes))
-  pub put_real : (negative : Bool) (magnitude n m : ℕ) (out : List ℕ) → OneWith (λ (r : ℕ) (x : List ℕ). (r ≡ put_number (put_real_answer magnitude n m (length out))) × (x ≡ put_real_left negative magnitude n m out))
+  pub put_real : (negative : Bool) (magnitude n m : ℕ) (out : List ℕ) → OneWith (λ (r : ℕ) (x : List ℕ). (r ≡ answer_number (put_real_answer magnitude n m (length out))) × (x ≡ put_real_left negative magnitude n m out))
   -- the documentation sector
   pub scan_mode : (f : ℕ) (line : List ℕ) → One (λ (r : NameAnswer). r ≡ scan_given (scan_mode_answer f line))
   pub scanner_select : (f : ℕ) (line : List ℕ) → One (λ (r : NameAnswer). r ≡ scanner_given (scanner_select_answer f line))

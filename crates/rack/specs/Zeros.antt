@@ -1,30 +1,22 @@
 -- EVERY REFUSED ANSWER ACROSS THE BOUNDARY has its number and 0 elsewhere; only a register, the reader's record and that of an
 -- assembly come back as they were handed in. One list, a row for each layout of an answer: every call that has it gives the layout of some answer `a`, or
 -- the row names the call. The other calls answer with a number alone. Assumes nothing.
-use Rattle.std.specs.Prelude.{false, List, ◌≡◌, ℕ, pos, replicate}
-use Rattle.formats.specs.declared.FormatAnswer as formats
+use Rattle.std.specs.Prelude.{false, List, ◌≡◌, ℕ, pos, replicate, Result}
+use Rattle.std.specs.Float.Ieee as Ieee
+use Rattle.refusals.specs.declared.Refusal.{Refusal}
+use Rattle.formats.specs.declared.Format.{Format}
 use Rattle.scramble.specs.Step.{step_answer, register_left}
-use Rattle.sync.specs.declared.SyncPut.{SyncPut}
-use Rattle.writer.specs.declared.Written.{Written}
-use Rattle.sectors.specs.Calls.{answers_answer}
-use Rattle.sectors.specs.declared.check.Counted.{Counted}
-use Rattle.visible.specs.declared.strip.Stripped.{Stripped}
 use Rattle.floats.specs.Floats.{zero_float}
-use Rattle.numbers.specs.declared.Integer.{Integer}
-use Rattle.numbers.specs.declared.Bcd.{Bcd}
-use Rattle.numbers.specs.declared.Real.{Real}
-use Rattle.floats.specs.declared.Float.{Float}
-use Rattle.document.specs.declared.modes.Scan.{Scan}
-use Rattle.document.specs.declared.modes.Scanner.{Scanner}
+use Rattle.numbers.specs.declared.R.{R}
+use Rattle.document.specs.declared.modes.ScanMode.{ScanMode}
+use Rattle.document.specs.declared.modes.Mirror.{Mirror}
 use Rattle.document.specs.declared.segments.SubCommutation.{SubCommutation}
-use Rattle.document_stamps.specs.declared.lines.Numbered.{Numbered}
-use Rattle.document_stamps.specs.declared.dates.Dated.{Dated}
-use Rattle.segments.specs.declared.Added.{Added}
-use Rattle.entries.specs.declared.revision.Revised.{Revised}
+use Rattle.document_stamps.specs.declared.lines.LineNumbers.{LineNumbers}
+use Rattle.bcd_dates.specs.declared.dates.DateTime.{DateTime}
+use Rattle.segments.specs.declared.Placed.{Placed}
 use Rattle.calibration.specs.declared.Level.{Level}
-use Rattle.calibration.specs.declared.LevelF64.{LevelF64}
-use Rattle.entries.specs.declared.mapping.Mapped.{Mapped}
-use Rattle.entries.specs.declared.orbit.Orbital.{Orbital}
+use Rattle.grid_points.specs.declared.Grid.{Grid}
+use Rattle.entries.specs.declared.orbit.Orbit.{Orbit}
 use Rattle.demands.specs.Refusals.{Refuses}
 use Rattle.rack_number.specs.declared.CountAnswer.{CountAnswer}
 use Rattle.rack_number.specs.declared.IntegerAnswer.{IntegerAnswer}
@@ -153,33 +145,33 @@ abbrev pub SeenAlone : SeenAnswer → Type 0
 SeenAlone a = Refuses a.refused → a ≡ record { refused = a.refused; from = 0; to = 0 }
 
 pub record Zeros : Type 0 where
-  pub format-of : (a : formats.FormatAnswer) → FormatAlone (format_given a)
+  pub format-of : (a : Result Format Refusal) → FormatAlone (format_given a)
   -- `stepped` and `step`
   pub step : (register : ℕ) → StepBack register (step_given (step_answer register) (register_left register))
-  pub put_sync : (a : SyncPut) → CountAlone (sync_given a)
+  pub put_sync : (a : Result ℕ Refusal) → CountAlone (sync_given a)
   pub read : (f setting : ℕ) (s : ReaderState) (piece line : List ℕ) → ReadBack s (read_of f setting s piece line)
-  pub write_line : (a : Written) → CountAlone (written_given a)
-  pub filler : (a : Counted) → CountAlone (filler_given a)
-  pub answers : (f : ℕ) (line : List ℕ) → TwelveAlone (twelve_given (answers_answer f line))
-  pub strip : (a : Stripped) → StripAlone (strip_given a)
+  pub write_line : (a : Result ℕ Refusal) → CountAlone (written_given a)
+  pub filler : (a : Result ℕ Refusal) → CountAlone (filler_given a)
+  pub answers : (a : Result (List ℕ) Refusal) → TwelveAlone (twelve_given a)
+  pub strip : (a : Result (List ℕ) Refusal) → StripAlone (strip_given a)
   pub with_line : (f : ℕ) (report : PassReport) (line : List ℕ) → ReportBack report (with_line_of f report line)
   pub together : (a b : PassReport) → ReportBack a (together_of a b)
   pub take : (d : LineDesk) (area : ℕ) → TakenBack d (take_of d area)
   pub publish : (d : LineDesk) (area i n : ℕ) → DeskBack d (publish_of d area i n)
   pub release : (d : LineDesk) (area c i n : ℕ) → DeskBack d (release_of d area c i n)
   pub seen : (d : LineDesk) (area c i n : ℕ) → SeenAlone (seen_of d area c i n)
-  pub integer : (a : Integer) → IntegerAlone (integer_given a)
-  pub bcd : (a : Bcd) → BcdAlone (bcd_given a)
-  pub real : (a : Real) → RealAlone (real_given a)
-  pub float : (a : Float) → FloatAlone (float_given a)
-  pub scan_mode : (a : Scan) → NameAlone (scan_given a)
-  pub scanner_select : (a : Scanner) → NameAlone (scanner_given a)
-  pub line_numbers : (a : Numbered) → LinesAlone (lines_given a)
-  pub date : (a : Dated) → DateAlone (date_given a)
-  pub sub_commutation : (a : SubCommutation) → SegmentAlone (segment_given a)
-  pub add_segment : (was : AssemblyRecord) (a : Added) → AddBack was (add_given was a)
-  pub revision : (a : Revised) → RevisionAlone (revision_given a)
-  pub level : (a : Level) → LevelAlone (level_given a)
-  pub level_f64 : (a : LevelF64) → LevelFloatAlone (level_f64_given a)
-  pub mapping : (a : Mapped) → GridAlone (grid_given a)
-  pub elements : (a : Orbital) → OrbitAlone (orbit_given a)
+  pub integer : (a : Result ℕ Refusal) → IntegerAlone (integer_given a)
+  pub bcd : (a : Result ℕ Refusal) → BcdAlone (bcd_given a)
+  pub real : (a : Result R Refusal) → RealAlone (real_given a)
+  pub float : (a : Result Ieee.Float Refusal) → FloatAlone (float_given a)
+  pub scan_mode : (a : Result ScanMode Refusal) → NameAlone (scan_given a)
+  pub scanner_select : (a : Result Mirror Refusal) → NameAlone (scanner_given a)
+  pub line_numbers : (a : Result LineNumbers Refusal) → LinesAlone (lines_given a)
+  pub date : (a : Result DateTime Refusal) → DateAlone (date_given a)
+  pub sub_commutation : (a : Result SubCommutation Refusal) → SegmentAlone (segment_given a)
+  pub add_segment : (was : AssemblyRecord) (a : Result Placed Refusal) → AddBack was (add_given was a)
+  pub revision : (a : Result ℕ Refusal) → RevisionAlone (revision_given a)
+  pub level : (a : Result (Level R) Refusal) → LevelAlone (level_given a)
+  pub level_f64 : (a : Result (Level Ieee.Float) Refusal) → LevelFloatAlone (level_f64_given a)
+  pub mapping : (a : Result Grid Refusal) → GridAlone (grid_given a)
+  pub elements : (a : Result Orbit Refusal) → OrbitAlone (orbit_given a)

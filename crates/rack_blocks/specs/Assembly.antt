@@ -1,10 +1,10 @@
 -- The record of an assembly, a segment added and a revision as they cross the boundary. Assumes nothing.
 use Rattle.blocks.specs.declared.assembly.Assembly.{Assembly}
-use Rattle.segments.specs.declared.Added.{Added}
-use Rattle.segments.specs.declared.Added.TheVariants.{Is, Refused}
-use Rattle.entries.specs.declared.revision.Revised.{Revised}
-use Rattle.segments.specs.Assembly.{added_number, added_segment, added_new}
-use Rattle.entries.specs.Entries.{revised_number, revised_value}
+use Rattle.std.specs.Prelude.{ℕ, Result, Ok, Err}
+use Rattle.refusals.specs.declared.Refusal.{Refusal}
+use Rattle.refusals.specs.Refusals.{answer_number, answer_value}
+use Rattle.segments.specs.declared.Placed.{Placed}
+use Rattle.segments.specs.Assembly.{added_segment, added_new}
 use Rattle.rack_blocks.specs.declared.AssemblyRecord.{AssemblyRecord}
 use Rattle.rack_blocks.specs.declared.AddAnswer.{AddAnswer}
 use Rattle.rack_blocks.specs.declared.RevisionAnswer.{RevisionAnswer}
@@ -17,17 +17,17 @@ abbrev pub record_of : Assembly → AssemblyRecord
 record_of a = record { marks = a.marks.segments; calibration = a.revisions.calibration; manam = a.revisions.manam }
 
 -- the record after an answer: a refused call gives back the one that it was handed
-abbrev pub record_after : AssemblyRecord → Added → AssemblyRecord
-record_after was (Is p) = record_of p.assembly
-record_after was (Refused k) = was
+abbrev pub record_after : AssemblyRecord → Result Placed Refusal → AssemblyRecord
+record_after was (Ok p) = record_of p.assembly
+record_after was (Err e) = was
 
-unfoldable pub add_given : AssemblyRecord → Added → AddAnswer
+unfoldable pub add_given : AssemblyRecord → Result Placed Refusal → AddAnswer
 add_given was a = record {
-  refused = added_number a;
+  refused = answer_number a;
   first_copy = added_new a;
   segment = added_segment a;
   assembly = record_after was a;
 }
 
-unfoldable pub revision_given : Revised → RevisionAnswer
-revision_given a = record { refused = revised_number a; revision = revised_value a }
+unfoldable pub revision_given : Result ℕ Refusal → RevisionAnswer
+revision_given a = record { refused = answer_number a; revision = answer_value 0 a }

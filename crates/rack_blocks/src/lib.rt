@@ -4,6 +4,8 @@
 // other field. The record crosses as a struct of its own, and comes back as it was handed in where a call is refused. The entries
 // of a finished block are in `rack_entries`.
 //
+// Structs with a number beside values, and the number 0 for no refusal, are the C interface.
+//
 // The contracts cite `specs/Assembly.antt`, over the definitions of the calls themselves. No function has a `requires`: nothing
 // checks a caller in C.
 //
@@ -18,8 +20,8 @@ ghost use Rattle.rack_blocks.specs.Assembly.{assembly_of, record_of, add_given, 
 
 use blocks::assembly::{Assembly, Revisions};
 use blocks::marks::Marks;
-use entries::revision::Revised;
-use segments::Added;
+use refusals::Refusal;
+use segments::Placed;
 
 // What an assembly keeps between calls, without gaps and in widths that no machine changes, since a caller may store it: bit s of
 // `marks` is set once segment s is stored; calibration table ID and MANAM revision are those of the line that brought the first.
@@ -50,27 +52,31 @@ pub struct RevisionAnswer {
     pub revision: u16,
 }
 
-// Inner. A record as the calls take it.
-pub fn handed(a: AssemblyRecord) -> Assembly
-    ensures { result ≡ assembly_of a }
-{
-    Assembly {
-        marks: Marks { segments: a.marks },
-        revisions: Revisions {
-            calibration: a.calibration,
-            manam: a.manam,
-        },
+// A record as the calls take it.
+impl From<AssemblyRecord> for Assembly {
+    ghost from_gives = { λ a assembly. assembly ≡ assembly_of a };
+
+    fn from(a: AssemblyRecord) -> Self {
+        Self {
+            marks: Marks { segments: a.marks },
+            revisions: Revisions {
+                calibration: a.calibration,
+                manam: a.manam,
+            },
+        }
     }
 }
 
-// Inner. A record as it crosses the boundary.
-fn kept(a: Assembly) -> AssemblyRecord
-    ensures { result ≡ record_of a }
-{
-    AssemblyRecord {
-        marks: a.marks.segments,
-        calibration: a.revisions.calibration,
-        manam: a.revisions.manam,
+// A record as it crosses the boundary.
+impl From<Assembly> for AssemblyRecord {
+    ghost from_gives = { λ a given. given ≡ record_of a };
+
+    fn from(a: Assembly) -> Self {
+        Self {
+            marks: a.marks.segments,
+            calibration: a.revisions.calibration,
+            manam: a.revisions.manam,
+        }
     }
 }
 
@@ -78,22 +84,23 @@ fn kept(a: Assembly) -> AssemblyRecord
 pub fn hansobrik_fresh_assembly() -> AssemblyRecord
     ensures { result ≡ record_of fresh_assembly }
 {
-    kept(blocks::assembly::fresh_assembly())
+    AssemblyRecord::from(blocks::assembly::fresh_assembly())
 }
 
 // Inner. A segment added, with the record that was handed in.
-fn add_given(was: AssemblyRecord, a: Added) -> AddAnswer
+#[tactic(auto, unfolding(crate::specs::Assembly::add_given))]
+fn add_given(was: AssemblyRecord, a: Result<Placed, Refusal>) -> AddAnswer
     ensures { result ≡ add_given was a }
 {
     match a {
-        Added::Is(p) => AddAnswer {
+        Ok(placed) => AddAnswer {
             refused: 0,
-            first_copy: p.first_copy,
-            segment: p.segment,
-            assembly: kept(p.assembly),
+            first_copy: placed.first_copy,
+            segment: placed.segment,
+            assembly: AssemblyRecord::from(placed.assembly),
         },
-        Added::Refused(n) => AddAnswer {
-            refused: n,
+        Err(refusal) => AddAnswer {
+            refused: refusal.number(),
             first_copy: false,
             segment: 0,
             assembly: was,
@@ -102,6 +109,7 @@ fn add_given(was: AssemblyRecord, a: Added) -> AddAnswer
 }
 
 // The segment of a block that a line carries, added; refused with 1, 12, 4, 2, 5, 6, 7, 14, 8.
+#[tactic(auto, using(segments::proofs::Settled::add_segment_is))]
 pub fn hansobrik_add_segment(
     format: u8,
     assembly: AssemblyRecord,
@@ -113,23 +121,26 @@ pub fn hansobrik_add_segment(
 {
     add_given(
         assembly,
-        segments::add_segment(format, handed(assembly), line, number, block),
+        segments::add_segment(format, Assembly::from(assembly), line, number, block),
     )
 }
 
-// Inner. A revision as it crosses the boundary.
-fn revision_given(a: Revised) -> RevisionAnswer
-    ensures { result ≡ revision_given a }
-{
-    match a {
-        Revised::Is(v) => RevisionAnswer {
-            refused: 0,
-            revision: v,
-        },
-        Revised::Refused(n) => RevisionAnswer {
-            refused: n,
-            revision: 0,
-        },
+// A revision as it crosses the boundary.
+#[tactic(auto, unfolding(crate::specs::Assembly::revision_given))]
+impl From<Result<u16, Refusal>> for RevisionAnswer {
+    ghost from_gives = { λ a given. given ≡ revision_given a };
+
+    fn from(a: Result<u16, Refusal>) -> Self {
+        match a {
+            Ok(revision) => Self {
+                refused: 0,
+                revision,
+            },
+            Err(refusal) => Self {
+                refused: refusal.number(),
+                revision: 0,
+            },
+        }
     }
 }
 
@@ -142,5 +153,10 @@ pub fn hansobrik_revision(
 ) -> RevisionAnswer
     ensures { result ≡ revision_given (revision_answer format (assembly_of assembly) number block.now) }
 {
-    revision_given(entries::revision::revision(format, handed(assembly), number, block))
+    RevisionAnswer::from(entries::revision::revision(
+        format,
+        Assembly::from(assembly),
+        number,
+        block,
+    ))
 }

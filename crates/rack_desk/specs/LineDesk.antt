@@ -1,14 +1,14 @@
 -- The line desk as it crosses the boundary, and the answers of its calls. Across the boundary a slot has a serial number, what it is
 -- used for (0, 1, 2) and its holders (1, 2, 3) where the desk's own has one of three. Assumes nothing.
-use Rattle.std.specs.Prelude.{ℕ, Bool, true, false, cond, ◌||◌, List, [], ◌∷◌, eqb, get_or, set, replicate}
-use Rattle.refusals.specs.Refusals.{kept}
+use Rattle.std.specs.Prelude.{ℕ, Bool, true, false, cond, ◌||◌, List, [], ◌∷◌, eqb, get_or, set, replicate, Result, Ok, Err}
+use Rattle.refusals.specs.declared.Refusal.{Refusal}
+use Rattle.refusals.specs.Refusals.{number_of, answer_number}
 use Rattle.desk_record.specs.declared.Use.{Use}
 use Rattle.desk_record.specs.declared.Use.TheVariants.{Free, Filling, Held}
 use Rattle.desk_record.specs.declared.Slot.{Slot}
 use Rattle.desk_record.specs.declared.Desk.{Desk}
 use Rattle.desk_record.specs.Slots.{slot_of}
 use Rattle.desk.specs.declared.Taken.{Taken}
-use Rattle.desk.specs.declared.Changed.{Changed}
 use Rattle.desk.specs.declared.Part.{Part}
 use Rattle.desk.specs.Calls.{fresh_answer, take_answer, publish_answer, release_answer, seen_answer}
 use Rattle.rack_desk.specs.declared.DeskSlot.{DeskSlot}
@@ -64,20 +64,22 @@ abbrev pub desk_left : LineDesk → Desk → ℕ → LineDesk
 desk_left was d i = record { count = was.count; last = d.last; slots = set was.slots i (slot_given (slot_of d i)) }
 
 -- an answer: the desk is the caller's own where the call is refused
-abbrev pub taken_given : LineDesk → Taken → TakenAnswer
-taken_given was a =
-    record { refused = a.refused; serial = a.serial; slot = a.slot; desk = kept a.refused was (desk_left was a.desk a.slot) }
+abbrev pub taken_given : LineDesk → Result Taken Refusal → TakenAnswer
+taken_given was (Ok a) = record { refused = 0; serial = a.serial; slot = a.slot; desk = desk_left was a.desk a.slot }
+taken_given was (Err e) = record { refused = number_of e; serial = 0; slot = 0; desk = was }
 
-abbrev pub changed_given : LineDesk → ℕ → Changed → DeskAnswer
-changed_given was i a = record { refused = a.refused; desk = kept a.refused was (desk_left was a.desk i) }
+abbrev pub changed_given : LineDesk → ℕ → Result Desk Refusal → DeskAnswer
+changed_given was i (Ok d) = record { refused = 0; desk = desk_left was d i }
+changed_given was i (Err e) = record { refused = number_of e; desk = was }
 
-abbrev pub part_given : Part → SeenAnswer
-part_given a = record { refused = a.refused; from = a.from; to = a.to }
+abbrev pub part_given : Result Part Refusal → SeenAnswer
+part_given (Ok p) = record { refused = 0; from = p.from; to = p.to }
+part_given (Err e) = record { refused = number_of e; from = 0; to = 0 }
 
 -- ---- THE CALLS: those of `desk` on the desk that was handed over
 
 unfoldable pub fresh_of : ℕ → DeskAnswer
-fresh_of count = record { refused = (fresh_answer count).refused; desk = record { count = count; last = 0; slots = replicate 8 no_slot } }
+fresh_of count = record { refused = answer_number (fresh_answer count); desk = record { count = count; last = 0; slots = replicate 8 no_slot } }
 
 unfoldable pub take_of : LineDesk → ℕ → TakenAnswer
 take_of d area = taken_given d (take_answer (desk_handed d) area)

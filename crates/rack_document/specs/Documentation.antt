@@ -1,14 +1,16 @@
 -- The fields of the documentation sector as they cross the boundary, each answer by the paper's number and values. Assumes nothing.
-use Rattle.std.specs.Prelude.{ℕ}
-use Rattle.document.specs.declared.modes.Scan.{Scan}
-use Rattle.document.specs.declared.modes.Scanner.{Scanner}
-use Rattle.document_stamps.specs.declared.lines.Numbered.{Numbered}
-use Rattle.document_stamps.specs.declared.dates.Dated.{Dated}
+use Rattle.std.specs.Prelude.{ℕ, Result}
+use Rattle.refusals.specs.declared.Refusal.{Refusal}
+use Rattle.refusals.specs.Refusals.{answer_number, answer_value}
+use Rattle.bcd_dates.specs.declared.dates.DateTime.{DateTime}
+use Rattle.document.specs.declared.modes.ScanMode.{ScanMode}
+use Rattle.document.specs.declared.modes.Mirror.{Mirror}
 use Rattle.document.specs.declared.segments.SubCommutation.{SubCommutation}
-use Rattle.document.specs.Modes.{scan_number, scan_name, scan_byte, scanner_number, scanner_name, scanner_byte}
-use Rattle.document_stamps.specs.Lines.{numbered_number, numbered_values}
-use Rattle.document_stamps.specs.Dates.{dated_number, dated_values}
-use Rattle.document.specs.Segments.{sub_number, sub_segment, sub_repeat}
+use Rattle.document_stamps.specs.declared.lines.LineNumbers.{LineNumbers}
+use Rattle.document.specs.Modes.{scan_name, scan_byte, scanner_name, scanner_byte}
+use Rattle.document.specs.Segments.{no_sub_commutation}
+use Rattle.document_stamps.specs.Lines.{no_lines}
+use Rattle.document_stamps.specs.Dates.{no_date}
 use Rattle.rack_document.specs.declared.NameAnswer.{NameAnswer}
 use Rattle.rack_document.specs.declared.LinesAnswer.{LinesAnswer}
 use Rattle.rack_document.specs.declared.DateAnswer.{DateAnswer}
@@ -17,32 +19,23 @@ use Rattle.rack_document.specs.declared.SegmentAnswer.{SegmentAnswer}
 unfoldable pub name_given : ℕ → ℕ → ℕ → NameAnswer
 name_given n name byte = record { refused = n; name = name; byte = byte }
 
-unfoldable pub scan_given : Scan → NameAnswer
-scan_given a = name_given (scan_number a) (scan_name a) (scan_byte a)
+unfoldable pub scan_given : Result ScanMode Refusal → NameAnswer
+scan_given a = name_given (answer_number a) (scan_name a) (scan_byte a)
 
-unfoldable pub scanner_given : Scanner → NameAnswer
-scanner_given a = name_given (scanner_number a) (scanner_name a) (scanner_byte a)
+unfoldable pub scanner_given : Result Mirror Refusal → NameAnswer
+scanner_given a = name_given (answer_number a) (scanner_name a) (scanner_byte a)
 
-unfoldable pub lines_given : Numbered → LinesAnswer
-lines_given a = record {
-  refused = numbered_number a;
-  set_line = (numbered_values a).set_line;
-  reset_line = (numbered_values a).reset_line;
-  scan_count = (numbered_values a).scan_count;
-  position = (numbered_values a).position;
-}
+unfoldable pub lines_given : Result LineNumbers Refusal → LinesAnswer
+lines_given a =
+    let l = answer_value no_lines a in
+    record { refused = answer_number a; set_line = l.set_line; reset_line = l.reset_line; scan_count = l.scan_count; position = l.position }
 
-unfoldable pub date_given : Dated → DateAnswer
-date_given a = record {
-  refused = dated_number a;
-  month = (dated_values a).month;
-  day = (dated_values a).day;
-  hour = (dated_values a).hour;
-  minute = (dated_values a).minute;
-  second = (dated_values a).second;
-  hundredths = (dated_values a).hundredths;
-  year = (dated_values a).year;
-}
+unfoldable pub date_given : Result DateTime Refusal → DateAnswer
+date_given a =
+    let d = answer_value no_date a in
+    record { refused = answer_number a; month = d.month; day = d.day; hour = d.hour; minute = d.minute; second = d.second; hundredths = d.hundredths; year = d.year }
 
-unfoldable pub segment_given : SubCommutation → SegmentAnswer
-segment_given a = record { refused = sub_number a; segment = sub_segment a; repeat = sub_repeat a }
+unfoldable pub segment_given : Result SubCommutation Refusal → SegmentAnswer
+segment_given a =
+    let s = answer_value no_sub_commutation a in
+    record { refused = answer_number a; segment = s.segment; repeat = s.repeat }

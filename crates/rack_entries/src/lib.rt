@@ -2,6 +2,8 @@
 // `entries` or `calibration` and lays that call's answer out as one struct of numbers: `refused` is 0 or the number of the refusal,
 // and a refused answer has 0 in every other field. The record of an assembly is that of `rack_blocks`.
 //
+// Structs with a number beside values are the C interface.
+//
 // The contracts cite `specs/Entry.antt`, over the definitions of the calls themselves. No function has a `requires`: nothing checks a
 // caller in C.
 //
@@ -14,10 +16,13 @@ ghost use Rattle.calibration.specs.Tables.{albedos, temperatures, level_answer, 
 ghost use Rattle.rack_blocks.specs.Assembly.{assembly_of};
 ghost use Rattle.rack_entries.specs.Entry.{level_given, level_f64_given, grid_given, orbit_given};
 
-use calibration::{Level, LevelF64};
-use entries::mapping::Mapped;
-use entries::orbit::Orbital;
-use rack_blocks::{AssemblyRecord, handed};
+use blocks::assembly::Assembly;
+use calibration::Level;
+use entries::orbit::Orbit;
+use grid_points::Grid;
+use numbers::R;
+use rack_blocks::AssemblyRecord;
+use refusals::Refusal;
 
 // A level of calibration-2 as sign, magnitude and decimal places, with the block's revision.
 #[repr(C)]
@@ -64,25 +69,28 @@ pub struct OrbitAnswer {
     pub anomaly: f64,
 }
 
-// Inner. A point of the grid as it crosses the boundary.
-fn grid_given(a: Mapped) -> GridAnswer
-    ensures { result ≡ grid_given a }
-{
-    match a {
-        Mapped::Is(g) => GridAnswer {
-            refused: 0,
-            line: g.line,
-            pixel: g.pixel,
-            latitude: g.latitude,
-            longitude: g.longitude,
-        },
-        Mapped::Refused(n) => GridAnswer {
-            refused: n,
-            line: 0,
-            pixel: 0,
-            latitude: 0,
-            longitude: 0,
-        },
+// A point of the grid as it crosses the boundary.
+#[tactic(auto, unfolding(crate::specs::Entry::grid_given))]
+impl From<Result<Grid, Refusal>> for GridAnswer {
+    ghost from_gives = { λ a given. given ≡ grid_given a };
+
+    fn from(a: Result<Grid, Refusal>) -> Self {
+        match a {
+            Ok(point) => Self {
+                refused: 0,
+                line: point.line,
+                pixel: point.pixel,
+                latitude: point.latitude,
+                longitude: point.longitude,
+            },
+            Err(refusal) => Self {
+                refused: refusal.number(),
+                line: 0,
+                pixel: 0,
+                latitude: 0,
+                longitude: 0,
+            },
+        }
     }
 }
 
@@ -96,46 +104,58 @@ pub fn hansobrik_mapping(
 ) -> GridAnswer
     ensures { result ≡ grid_given (mapping_answer format (assembly_of assembly).marks block.now row column) }
 {
-    grid_given(entries::mapping::mapping(format, handed(assembly), block, row, column))
+    GridAnswer::from(entries::mapping::mapping(
+        format,
+        Assembly::from(assembly),
+        block,
+        row,
+        column,
+    ))
 }
 
-// Inner. A level as it crosses the boundary.
-fn level_given(a: Level) -> LevelAnswer
-    ensures { result ≡ level_given a }
-{
-    match a {
-        Level::Is(v) => LevelAnswer {
-            refused: 0,
-            negative: v.value.negative,
-            places: v.value.places,
-            revision: v.revision,
-            magnitude: v.value.magnitude,
-        },
-        Level::Refused(n) => LevelAnswer {
-            refused: n,
-            negative: false,
-            places: 0,
-            revision: 0,
-            magnitude: 0,
-        },
+// A level as it crosses the boundary.
+#[tactic(auto, unfolding(crate::specs::Entry::level_given))]
+impl From<Result<Level<R>, Refusal>> for LevelAnswer {
+    ghost from_gives = { λ a given. given ≡ level_given a };
+
+    fn from(a: Result<Level<R>, Refusal>) -> Self {
+        match a {
+            Ok(level) => Self {
+                refused: 0,
+                negative: level.value.negative,
+                places: level.value.places,
+                revision: level.revision,
+                magnitude: level.value.magnitude,
+            },
+            Err(refusal) => Self {
+                refused: refusal.number(),
+                negative: false,
+                places: 0,
+                revision: 0,
+                magnitude: 0,
+            },
+        }
     }
 }
 
-// Inner. The same in f64.
-fn level_f64_given(a: LevelF64) -> LevelFloatAnswer
-    ensures { result ≡ level_f64_given a }
-{
-    match a {
-        LevelF64::Is(v) => LevelFloatAnswer {
-            refused: 0,
-            revision: v.revision,
-            value: v.value,
-        },
-        LevelF64::Refused(n) => LevelFloatAnswer {
-            refused: n,
-            revision: 0,
-            value: 0.0,
-        },
+// The same in f64.
+#[tactic(auto, unfolding(crate::specs::Entry::level_f64_given))]
+impl From<Result<Level<f64>, Refusal>> for LevelFloatAnswer {
+    ghost from_gives = { λ a given. given ≡ level_f64_given a };
+
+    fn from(a: Result<Level<f64>, Refusal>) -> Self {
+        match a {
+            Ok(level) => Self {
+                refused: 0,
+                revision: level.revision,
+                value: level.value,
+            },
+            Err(refusal) => Self {
+                refused: refusal.number(),
+                revision: 0,
+                value: 0.0,
+            },
+        }
     }
 }
 
@@ -149,7 +169,7 @@ pub fn hansobrik_albedo(
 ) -> LevelAnswer
     ensures { result ≡ level_given (level_answer albedos format (assembly_of assembly) block.now channel level) }
 {
-    level_given(calibration::albedo(format, handed(assembly), block, channel, level))
+    LevelAnswer::from(calibration::albedo(format, Assembly::from(assembly), block, channel, level))
 }
 
 // The same in f64.
@@ -162,7 +182,13 @@ pub fn hansobrik_albedo_f64(
 ) -> LevelFloatAnswer
     ensures { result ≡ level_f64_given (level_f64_answer albedos format (assembly_of assembly) block.now channel level) }
 {
-    level_f64_given(calibration::albedo_f64(format, handed(assembly), block, channel, level))
+    LevelFloatAnswer::from(calibration::albedo_f64(
+        format,
+        Assembly::from(assembly),
+        block,
+        channel,
+        level,
+    ))
 }
 
 // The temperature of a level of IR 1 to 4; refused with 1, 12, 4, 10, 2, 9.
@@ -175,7 +201,13 @@ pub fn hansobrik_temperature(
 ) -> LevelAnswer
     ensures { result ≡ level_given (level_answer temperatures format (assembly_of assembly) block.now channel level) }
 {
-    level_given(calibration::temperature(format, handed(assembly), block, channel, level))
+    LevelAnswer::from(calibration::temperature(
+        format,
+        Assembly::from(assembly),
+        block,
+        channel,
+        level,
+    ))
 }
 
 // The same in f64.
@@ -188,34 +220,43 @@ pub fn hansobrik_temperature_f64(
 ) -> LevelFloatAnswer
     ensures { result ≡ level_f64_given (level_f64_answer temperatures format (assembly_of assembly) block.now channel level) }
 {
-    level_f64_given(calibration::temperature_f64(format, handed(assembly), block, channel, level))
+    LevelFloatAnswer::from(calibration::temperature_f64(
+        format,
+        Assembly::from(assembly),
+        block,
+        channel,
+        level,
+    ))
 }
 
-// Inner. The orbital elements as they cross the boundary.
-fn orbit_given(a: Orbital) -> OrbitAnswer
-    ensures { result ≡ orbit_given a }
-{
-    match a {
-        Orbital::Is(o) => OrbitAnswer {
-            refused: 0,
-            epoch: o.epoch,
-            axis: o.axis,
-            eccentricity: o.eccentricity,
-            inclination: o.inclination,
-            node: o.node,
-            perigee: o.perigee,
-            anomaly: o.anomaly,
-        },
-        Orbital::Refused(n) => OrbitAnswer {
-            refused: n,
-            epoch: 0.0,
-            axis: 0.0,
-            eccentricity: 0.0,
-            inclination: 0.0,
-            node: 0.0,
-            perigee: 0.0,
-            anomaly: 0.0,
-        },
+// The orbital elements as they cross the boundary.
+#[tactic(auto, unfolding(crate::specs::Entry::orbit_given))]
+impl From<Result<Orbit, Refusal>> for OrbitAnswer {
+    ghost from_gives = { λ a given. given ≡ orbit_given a };
+
+    fn from(a: Result<Orbit, Refusal>) -> Self {
+        match a {
+            Ok(orbit) => Self {
+                refused: 0,
+                epoch: orbit.epoch,
+                axis: orbit.axis,
+                eccentricity: orbit.eccentricity,
+                inclination: orbit.inclination,
+                node: orbit.node,
+                perigee: orbit.perigee,
+                anomaly: orbit.anomaly,
+            },
+            Err(refusal) => Self {
+                refused: refusal.number(),
+                epoch: 0.0,
+                axis: 0.0,
+                eccentricity: 0.0,
+                inclination: 0.0,
+                node: 0.0,
+                perigee: 0.0,
+                anomaly: 0.0,
+            },
+        }
     }
 }
 
@@ -223,5 +264,5 @@ fn orbit_given(a: Orbital) -> OrbitAnswer
 pub fn hansobrik_elements(format: u8, assembly: AssemblyRecord, block: &[u8]) -> OrbitAnswer
     ensures { result ≡ orbit_given (elements_answer format (assembly_of assembly).marks block.now) }
 {
-    orbit_given(entries::orbit::elements(format, handed(assembly), block))
+    OrbitAnswer::from(entries::orbit::elements(format, Assembly::from(assembly), block))
 }

@@ -6,6 +6,8 @@
 // The contracts cite `specs/Ground.antt`, one definition for each answer, over the definitions of the calls themselves. No
 // function has a `requires`: nothing checks a caller in C.
 //
+// Structs with a number beside values are the C interface.
+//
 // A slice crosses as a pointer and a count; slices that are lent to one call must not overlap.
 #![tactic(auto)]
 
@@ -17,8 +19,8 @@ ghost use Rattle.rack_ground.specs.Ground.{version, format_given, step_given, sy
 
 use formats::Format;
 use rack_number::CountAnswer;
-use scramble::{Register, StepBit};
-use sync::SyncPut;
+use refusals::Refusal;
+use scramble::{Register, StepTaken};
 
 // A format: its number, the start value of the check of its sectors, the bits of the three parts of one line on the wire, and the
 // bytes of them all.
@@ -50,29 +52,32 @@ pub fn hansobrik_version() -> u32
     800
 }
 
-// Inner. A format as it crosses the boundary.
-fn format_given(a: formats::FormatAnswer) -> FormatAnswer
-    ensures { result ≡ format_given a }
-{
-    match a {
-        formats::FormatAnswer::Is(f) => FormatAnswer {
-            refused: 0,
-            number: f.number,
-            check_start: f.check_start,
-            sync_bits: f.sync,
-            information_bits: f.information,
-            dummy_bits: f.dummy,
-            bytes: f.bytes,
-        },
-        formats::FormatAnswer::Refused(n) => FormatAnswer {
-            refused: n,
-            number: 0,
-            check_start: 0,
-            sync_bits: 0,
-            information_bits: 0,
-            dummy_bits: 0,
-            bytes: 0,
-        },
+// A format as it crosses the boundary.
+impl From<Result<Format, Refusal>> for FormatAnswer {
+    ghost from_gives = { λ a given. given ≡ format_given a };
+
+    #[tactic(auto, unfolding(crate::specs::Ground::format_given))]
+    fn from(a: Result<Format, Refusal>) -> Self {
+        match a {
+            Ok(f) => Self {
+                refused: 0,
+                number: f.number,
+                check_start: f.check_start,
+                sync_bits: f.sync,
+                information_bits: f.information,
+                dummy_bits: f.dummy,
+                bytes: f.bytes,
+            },
+            Err(refusal) => Self {
+                refused: refusal.number(),
+                number: 0,
+                check_start: 0,
+                sync_bits: 0,
+                information_bits: 0,
+                dummy_bits: 0,
+                bytes: 0,
+            },
+        }
     }
 }
 
@@ -80,23 +85,24 @@ fn format_given(a: formats::FormatAnswer) -> FormatAnswer
 pub fn hansobrik_format(format: u8) -> FormatAnswer
     ensures { result ≡ format_given (format_of format) }
 {
-    format_given(Format::of(format))
+    FormatAnswer::from(Format::of(format))
 }
 
 // Inner. A step's answer as it crosses the boundary, with the register after it.
-fn step_given(a: StepBit, register: u16) -> StepAnswer
+#[tactic(auto, unfolding(crate::specs::Ground::step_given))]
+fn step_given(a: Result<u8, Refusal>, register: u16) -> StepAnswer
     ensures { result ≡ step_given a register }
 {
     match a {
-        StepBit::Bit(b) => StepAnswer {
+        Ok(bit) => StepAnswer {
             refused: 0,
-            bit: b,
-            register: register,
+            bit,
+            register,
         },
-        StepBit::Refused(n) => StepAnswer {
-            refused: n,
+        Err(refusal) => StepAnswer {
+            refused: refusal.number(),
             bit: 0,
-            register: register,
+            register,
         },
     }
 }
@@ -105,9 +111,7 @@ fn step_given(a: StepBit, register: u16) -> StepAnswer
 pub fn hansobrik_stepped(register: u16) -> StepAnswer
     ensures { result ≡ step_given (step_answer register) (register_left register) }
 {
-    let s = scramble::stepped(Register { bits: register });
-    let answer = s.answer;
-    let next = s.next;
+    let StepTaken { next, answer } = scramble::stepped(Register { bits: register });
     step_given(answer, next.bits)
 }
 
@@ -122,25 +126,9 @@ pub fn hansobrik_step(register: &mut u16) -> StepAnswer
     step_given(answer, own.bits)
 }
 
-// Inner. The bytes of SYNC as they cross the boundary.
-fn sync_given(a: SyncPut) -> CountAnswer
-    ensures { result ≡ sync_given a }
-{
-    match a {
-        SyncPut::Put(n) => CountAnswer {
-            refused: 0,
-            count: n,
-        },
-        SyncPut::Refused(n) => CountAnswer {
-            refused: n,
-            count: 0,
-        },
-    }
-}
-
 // SYNC of a format at the front of out, and how many bytes it takes; refused with 1, 3.
 pub fn hansobrik_put_sync(format: u8, out: &mut [u8]) -> CountAnswer
     ensures { (result ≡ sync_given (put_sync_answer format out.old)) × (out.new ≡ put_sync_left format out.old) }
 {
-    sync_given(sync::put_sync(format, out))
+    CountAnswer::from(sync::put_sync(format, out))
 }

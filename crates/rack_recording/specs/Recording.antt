@@ -1,15 +1,14 @@
 -- The reader's record as it crosses the boundary, and the answers of reader and writer. Across the boundary the record has a
 -- number where the reader's own has a truth value; one that is neither 0 nor 1 is impossible, 12. Assumes nothing.
-use Rattle.std.specs.Prelude.{ℕ, Bool, true, false, cond, List, eqb, ltb}
-use Rattle.refusals.specs.Refusals.{first}
+use Rattle.std.specs.Prelude.{ℕ, Bool, true, false, cond, List, eqb, ltb, Result, Ok, Err}
+use Rattle.refusals.specs.declared.Refusal.{Refusal}
+use Rattle.refusals.specs.Refusals.{first, answer_number, answer_value}
 use Rattle.formats.specs.Formats.{format_refusal}
 use Rattle.reader_record.specs.declared.State.{State}
-use Rattle.reader_line.specs.declared.Answer.{Answer}
-use Rattle.reader_line.specs.declared.Answer.TheVariants.{Refused, More, Line}
-use Rattle.reader.specs.Read.{read_answer, read_left, refusal_of, taken_by, line_by}
+use Rattle.reader_line.specs.declared.Reading.{Reading}
+use Rattle.reader_line.specs.declared.Reading.TheVariants.{More, Line}
+use Rattle.reader.specs.Read.{read_answer, read_left, taken_by, line_by}
 use Rattle.reader_refusals.specs.Refusing.{setting_refusal}
-use Rattle.writer.specs.declared.Written.{Written}
-use Rattle.writer.specs.Wire.{written_number, written_bytes}
 use Rattle.rack_number.specs.declared.CountAnswer.{CountAnswer}
 use Rattle.rack_number.specs.Number.{count_given}
 use Rattle.rack_recording.specs.declared.ReaderState.{ReaderState}
@@ -55,13 +54,13 @@ unfoldable pub refused_read : ℕ → ReaderState → ReadAnswer
 refused_read n was = record { refused = n; complete = false; taken = 0; state = was }
 
 -- the record for the next call, with the one that was handed in: a refused call gives it back
-abbrev pub record_after : ReaderState → Answer → ReaderState
-record_after was (Refused n) = was
-record_after was (More t s) = kept_of s
-record_after was (Line t s) = kept_of s
+abbrev pub record_after : ReaderState → Result Reading Refusal → ReaderState
+record_after was (Err e) = was
+record_after was (Ok (More t s)) = kept_of s
+record_after was (Ok (Line t s)) = kept_of s
 
-unfoldable pub read_given : ReaderState → Answer → ReadAnswer
-read_given was a = record { refused = refusal_of a; complete = line_by a; taken = taken_by a; state = record_after was a }
+unfoldable pub read_given : ReaderState → Result Reading Refusal → ReadAnswer
+read_given was a = record { refused = answer_number a; complete = line_by a; taken = taken_by a; state = record_after was a }
 
 -- a flag that is neither 0 nor 1: 12, after 1 and 13
 unfoldable pub flag_refusal : ℕ → ℕ → ℕ
@@ -77,5 +76,5 @@ line_left f k s piece line = cond (ltb 1 s.in_line) line (read_left f k (handed_
 
 -- ---- write_line
 
-unfoldable pub written_given : Written → CountAnswer
-written_given a = count_given (written_number a) (written_bytes a)
+unfoldable pub written_given : Result ℕ Refusal → CountAnswer
+written_given a = count_given (answer_number a) (answer_value 0 a)

@@ -1,16 +1,15 @@
 -- The pass report as it crosses the boundary, and the answers of its calls. Across the boundary a channel has a mark, least and
 -- largest where the report's own has a range; a mark that is neither 0 nor 1 is impossible, 12. Assumes nothing.
-use Rattle.std.specs.Prelude.{ℕ, Bool, cond, ◌&&◌, List, eqb, leb, get_or}
-use Rattle.refusals.specs.Refusals.{first, kept}
+use Rattle.std.specs.Prelude.{ℕ, Bool, cond, ◌&&◌, List, eqb, leb, get_or, Option, Some, None, Result, Ok, Err}
+use Rattle.refusals.specs.declared.Refusal.{Refusal}
+use Rattle.refusals.specs.Refusals.{first, number_of}
 use Rattle.formats.specs.Formats.{format_refusal}
 use Rattle.report_record.specs.declared.Range.{Range}
-use Rattle.report_record.specs.declared.Range.TheVariants.{Absent, From}
 use Rattle.report_record.specs.declared.Tally.{Tally}
 use Rattle.report_record.specs.declared.Channel.{Channel}
 use Rattle.report_record.specs.declared.Report.{Report}
 use Rattle.report_record.specs.Sums.{row_of, all_of}
 use Rattle.report_record.specs.Report.{tally_at, channel_at}
-use Rattle.report.specs.declared.Reported.{Reported}
 use Rattle.report.specs.Calls.{with_line_answer, together_answer}
 use Rattle.rack_report.specs.declared.SectorTally.{SectorTally}
 use Rattle.rack_report.specs.declared.ChannelTally.{ChannelTally}
@@ -27,19 +26,19 @@ tally_given t = record { accepted = t.accepted; remainder = t.remainder; id = t.
 
 -- by the mark alone: what stands beside a mark of 0 is not looked at
 abbrev pub channel_handed : ChannelTally → Channel
-channel_handed c = record { count = c.count; sum = c.sum; range = cond (eqb c.present 1) (From c.least c.largest) Absent }
+channel_handed c = record { count = c.count; sum = c.sum; range = cond (eqb c.present 1) (Some (record { least = c.least; largest = c.largest })) None }
 
-abbrev pub least_of : Range → ℕ
-least_of Absent = 0
-least_of (From lo hi) = lo
+abbrev pub least_of : Option Range → ℕ
+least_of None = 0
+least_of (Some r) = r.least
 
-abbrev pub largest_of : Range → ℕ
-largest_of Absent = 0
-largest_of (From lo hi) = hi
+abbrev pub largest_of : Option Range → ℕ
+largest_of None = 0
+largest_of (Some r) = r.largest
 
-abbrev pub mark_of : Range → ℕ
-mark_of Absent = 0
-mark_of (From lo hi) = 1
+abbrev pub mark_of : Option Range → ℕ
+mark_of None = 0
+mark_of (Some r) = 1
 
 abbrev pub channel_given : Channel → ChannelTally
 channel_given c = record { count = c.count; sum = c.sum; least = least_of c.range; largest = largest_of c.range; present = mark_of c.range }
@@ -81,8 +80,9 @@ marked p = all_of (λ (i : ℕ). leb (pixels_at p i).present 1) 4
 abbrev pub refused_report : ℕ → PassReport → ReportAnswer
 refused_report n was = record { refused = n; report = was }
 
-unfoldable pub answer_given : PassReport → Reported → ReportAnswer
-answer_given was a = record { refused = a.refused; report = kept a.refused was (report_given a.report) }
+abbrev pub answer_given : PassReport → Result Report Refusal → ReportAnswer
+answer_given was (Ok r) = record { refused = 0; report = report_given r }
+answer_given was (Err e) = refused_report (number_of e) was
 
 -- a mark that is neither 0 nor 1: 12, after 1
 unfoldable pub mark_refusal : ℕ → ℕ

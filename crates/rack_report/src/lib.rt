@@ -2,20 +2,20 @@
 // the answer out as one struct of numbers: `refused` is 0 or the number of the refusal, and then the record is the one that was
 // handed in, every field of it.
 //
+// Structs with a number beside values, and a mark beside least and largest, are the C interface.
+//
 // The contracts cite `specs/PassReport.antt`, over the definitions of the calls themselves. No function has a `requires`: nothing
 // checks a caller in C.
 #![tactic(auto)]
 
-ghost use Rattle.std.specs.Prelude.{◌≡◌, ℕ};
-ghost use mathlib.Core.Bool.{};
-ghost use Rattle.report_record.specs.Sums.{row_of};
-ghost use Rattle.report_record.specs.Report.{tally_at, empty_report};
-ghost use Rattle.rack_report.specs.PassReport.{tally_handed, tally_given, channel_handed, channel_given, no_sector, sector_at, report_handed, report_given, marked, mark_refusal, refused_report, answer_given, with_line_of, together_of};
+ghost use Rattle.std.specs.Prelude.{◌≡◌};
+ghost use Rattle.report_record.specs.Report.{empty_report};
+ghost use Rattle.rack_report.specs.PassReport.{tally_handed, tally_given, channel_handed, channel_given, report_handed, report_given, marked, refused_report, answer_given, mark_refusal, with_line_of, together_of};
+ghost use Rattle.refusals.specs.Refusals.{answer_number, number_of};
 
 use formats::format_refusal;
-use refusals::first;
-use report::Reported;
-use report_record::{Channel, Range, Report, Tally, no_tally};
+use refusals::Refusal;
+use report_record::{Channel, Range, Report, Tally};
 
 // A sector over all lines of a pass: how many accepted it, how many refused it with 5 and with 6; its filler bits that are set.
 #[repr(C)]
@@ -57,131 +57,99 @@ pub struct ReportAnswer {
     pub report: PassReport,
 }
 
-// Inner. A sector as the calls take it, and as it crosses the boundary.
-fn tally_handed(t: SectorTally) -> Tally
-    ensures { result ≡ tally_handed t }
-{
-    Tally {
-        accepted: t.accepted,
-        remainder: t.remainder,
-        id: t.id,
-        filler: t.filler,
+// A sector as the calls take it, and as it crosses the boundary.
+impl From<SectorTally> for Tally {
+    ghost from_gives = { λ t tally. tally ≡ tally_handed t };
+
+    fn from(t: SectorTally) -> Self {
+        Self {
+            accepted: t.accepted,
+            remainder: t.remainder,
+            id: t.id,
+            filler: t.filler,
+        }
     }
 }
 
-fn tally_given(t: Tally) -> SectorTally
-    ensures { result ≡ tally_given t }
-{
-    SectorTally {
-        accepted: t.accepted,
-        remainder: t.remainder,
-        id: t.id,
-        filler: t.filler,
+impl From<Tally> for SectorTally {
+    ghost from_gives = { λ t tally. tally ≡ tally_given t };
+
+    fn from(t: Tally) -> Self {
+        Self {
+            accepted: t.accepted,
+            remainder: t.remainder,
+            id: t.id,
+            filler: t.filler,
+        }
     }
 }
 
-// Inner. A channel as the calls take it, by its mark alone, and as it crosses the boundary.
-fn channel_handed(c: ChannelTally) -> Channel
-    ensures { result ≡ channel_handed c }
-{
-    if c.present != 1 {
-        return Channel {
+// A channel as the calls take it, by its mark alone, and as it crosses the boundary.
+impl From<ChannelTally> for Channel {
+    ghost from_gives = { λ c channel. channel ≡ channel_handed c };
+
+    fn from(c: ChannelTally) -> Self {
+        let range = if c.present == 1 {
+            Some(Range {
+                least: c.least,
+                largest: c.largest,
+            })
+        } else {
+            None
+        };
+        Self {
             count: c.count,
             sum: c.sum,
-            range: Range::Absent,
-        };
-    }
-    Channel {
-        count: c.count,
-        sum: c.sum,
-        range: Range::From {
-            least: c.least,
-            largest: c.largest,
-        },
+            range,
+        }
     }
 }
 
-fn channel_given(c: Channel) -> ChannelTally
-    ensures { result ≡ channel_given c }
-{
-    let count = c.count;
-    let sum = c.sum;
-    let range = c.range;
-    match range {
-        Range::Absent => ChannelTally {
-            count: count,
-            sum: sum,
-            least: 0,
-            largest: 0,
-            present: 0,
-        },
-        Range::From { least, largest } => ChannelTally {
-            count: count,
-            sum: sum,
-            least: least,
-            largest: largest,
-            present: 1,
-        },
+impl From<Channel> for ChannelTally {
+    ghost from_gives = { λ c channel. channel ≡ channel_given c };
+
+    fn from(c: Channel) -> Self {
+        match c.range {
+            None => Self {
+                count: c.count,
+                sum: c.sum,
+                least: 0,
+                largest: 0,
+                present: 0,
+            },
+            Some(range) => Self {
+                count: c.count,
+                sum: c.sum,
+                least: range.least,
+                largest: range.largest,
+                present: 1,
+            },
+        }
     }
 }
 
-// Inner. The twelve sectors, both ways.
-fn sectors_handed(p: PassReport) -> [Tally; 12]
-    ensures { result ≡ row_of (λ (i : ℕ). tally_handed (sector_at p i)) 12 }
-{
-    let none = no_tally();
-    let mut out = [none; 12];
-    let mut i: usize = 0;
-    while i < 12 {
-        out[i] = tally_handed(p.sectors[i]);
-        i += 1;
-    }
-    out
-}
+// A report as the calls take it, and as it crosses the boundary.
+impl From<PassReport> for Report {
+    ghost from_gives = { λ p report. report ≡ report_handed p };
 
-fn sectors_given(r: Report) -> [SectorTally; 12]
-    ensures { result ≡ row_of (λ (i : ℕ). tally_given (tally_at r i)) 12 }
-{
-    let none = tally_given(no_tally());
-    let mut out = [none; 12];
-    let mut i: usize = 0;
-    while i < 12 {
-        out[i] = tally_given(r.sectors[i]);
-        i += 1;
-    }
-    out
-}
-
-// Inner. A report as the calls take it, and as it crosses the boundary.
-fn report_handed(p: PassReport) -> Report
-    ensures { result ≡ report_handed p }
-{
-    let sectors = sectors_handed(p);
-    let one = channel_handed(p.channels[0]);
-    let two = channel_handed(p.channels[1]);
-    let three = channel_handed(p.channels[2]);
-    let four = channel_handed(p.channels[3]);
-    let channels = [one, two, three, four];
-    Report {
-        lines: p.lines,
-        sectors: sectors,
-        channels: channels,
+    fn from(p: PassReport) -> Self {
+        Self {
+            lines: p.lines,
+            sectors: p.sectors.map(Tally::from),
+            channels: p.channels.map(Channel::from),
+        }
     }
 }
 
-fn report_given(r: Report) -> PassReport
-    ensures { result ≡ report_given r }
-{
-    let sectors = sectors_given(r);
-    let one = channel_given(r.channels[0]);
-    let two = channel_given(r.channels[1]);
-    let three = channel_given(r.channels[2]);
-    let four = channel_given(r.channels[3]);
-    let channels = [one, two, three, four];
-    PassReport {
-        lines: r.lines,
-        sectors: sectors,
-        channels: channels,
+impl From<Report> for PassReport {
+    ghost from_gives = { λ r report. report ≡ report_given r };
+
+    fn from(r: Report) -> Self {
+        Self {
+            lines: r.lines,
+            sectors: r.sectors.map(SectorTally::from),
+            channels: r.channels.map(ChannelTally::from),
+        }
     }
 }
 
@@ -189,37 +157,28 @@ fn report_given(r: Report) -> PassReport
 fn marked(p: PassReport) -> bool
     ensures { result ≡ marked p }
 {
-    let mut i: usize = 0;
-    while i < 4 {
-        if p.channels[i].present > 1 {
-            return false;
-        }
-        i += 1;
-    }
-    true
+    p.channels.iter().all(|c| c.present <= 1)
 }
 
 // Inner. The answer of a refused call, and the answer of any call, with the record that was handed in.
-fn refused_report(n: u8, was: PassReport) -> ReportAnswer
-    ensures { result ≡ refused_report n was }
+fn refused_report(refusal: Refusal, was: PassReport) -> ReportAnswer
+    ensures { result ≡ refused_report (number_of refusal) was }
 {
     ReportAnswer {
-        refused: n,
+        refused: refusal.number(),
         report: was,
     }
 }
 
-fn answer_given(was: PassReport, a: Reported) -> ReportAnswer
-    ensures { result ≡ answer_given was a }
+fn answer_given(was: PassReport, answer: Result<Report, Refusal>) -> ReportAnswer
+    ensures { result ≡ answer_given was answer }
 {
-    let refused = a.refused;
-    if refused != 0 {
-        return refused_report(refused, was);
-    }
-    let report = a.report;
-    ReportAnswer {
-        refused: 0,
-        report: report_given(report),
+    match answer {
+        Ok(report) => ReportAnswer {
+            refused: 0,
+            report: PassReport::from(report),
+        },
+        Err(refusal) => refused_report(refusal, was),
     }
 }
 
@@ -227,17 +186,22 @@ fn answer_given(was: PassReport, a: Reported) -> ReportAnswer
 pub fn hansobrik_empty_report() -> PassReport
     ensures { result ≡ report_given empty_report }
 {
-    report_given(report::empty())
+    PassReport::from(report::empty())
 }
 
-// Inner. The refusal of a record with a mark that is neither 0 nor 1: 12, after 1.
-fn impossible_mark(format: u8) -> u8
-    ensures { result ≡ mark_refusal format }
+// Inner. What refuses a record with a mark that is neither 0 nor 1: 12, after 1.
+#[tactic(auto, unfolding(crate::specs::PassReport::mark_refusal, refusals::specs::Refusals::first))]
+fn impossible_mark(format: u8) -> Refusal
+    ensures { number_of result ≡ mark_refusal format }
 {
-    first(format_refusal(format), refusals::STATE)
+    match format_refusal(format) {
+        Ok(()) => Refusal::State,
+        Err(refusal) => refusal,
+    }
 }
 
 // The report with one line more; refused with 1, 12, 15, 2.
+#[tactic(auto, unfolding(crate::specs::PassReport::with_line_of))]
 pub fn hansobrik_with_line(format: u8, report: PassReport, line: &[u8]) -> ReportAnswer
     ensures { result ≡ with_line_of format report line.now }
 {
@@ -246,22 +210,20 @@ pub fn hansobrik_with_line(format: u8, report: PassReport, line: &[u8]) -> Repor
     }
     answer_given(
         report,
-        report::with_line(format, report_handed(report), line),
+        report::with_line(format, Report::from(report), line),
     )
 }
 
 // The report of two passes, one after the other; refused with 12, 15, and then the first comes back.
+#[tactic(auto, unfolding(crate::specs::PassReport::together_of))]
 pub fn hansobrik_together(first: PassReport, second: PassReport) -> ReportAnswer
     ensures { result ≡ together_of first second }
 {
-    if !marked(first) {
-        return refused_report(refusals::STATE, first);
-    }
-    if !marked(second) {
-        return refused_report(refusals::STATE, first);
+    if !marked(first) || !marked(second) {
+        return refused_report(Refusal::State, first);
     }
     answer_given(
         first,
-        report::together(report_handed(first), report_handed(second)),
+        report::together(Report::from(first), Report::from(second)),
     )
 }

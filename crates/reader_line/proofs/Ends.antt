@@ -11,11 +11,11 @@ use Rattle.line_bits.specs.Reading.{FilledOk, filled_call}
 use Rattle.reader_record.specs.Records.{between_of, inside_of}
 use Rattle.reader_record.specs.declared.State.{State}
 use Rattle.reader_line.specs.Answers.{call_answer, call_left, CallOk, LineOk}
-use Rattle.reader_line.specs.declared.Answer.{Answer}
-use Rattle.reader_line.specs.declared.Answer.TheVariants.{More, Line}
+use Rattle.reader_line.specs.declared.Reading.{Reading}
+use Rattle.reader_line.specs.declared.Reading.TheVariants.{More, Line}
 
 -- a call that is d gives r and the buffer
-pub call_ok : {c d : Call Bench} {r : Answer} {buf : List ℕ} → c ≡ d → r ≡ call_answer d → buf ≡ call_left d → CallOk c r buf
+pub call_ok : {c d : Call Bench} {r : Reading} {buf : List ℕ} → c ≡ d → r ≡ call_answer d → buf ≡ call_left d → CallOk c r buf
 call_ok e a b = record { answer = a ∙ sym (ap call_answer e); buffer = b ∙ sym (ap call_left e) }
 
 pub filled_whole : {p : List ℕ} {t n v place r q : ℕ} {buf buf' : List ℕ} {f : Filled} {t' n' v' : ℕ} {s : State}

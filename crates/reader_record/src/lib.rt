@@ -5,16 +5,17 @@
 #![tactic(auto)]
 
 ghost use Rattle.std.specs.Prelude.{◌≡◌, not, ◌≤◌, ◌^◌, ltb};
-ghost use Rattle.refusals.specs.Refusals.{when};
+ghost use Rattle.refusals.specs.Refusals.{when, answer_number};
 ghost use Rattle.reader_record.specs.Records.{between_of, inside_of, fresh_state, counts_of, possible_of};
 
 use formats::Format;
+use refusals::Refusal;
 
 // What a reader keeps between calls. In a line: the position of the next line bit, the scrambling register before it, and
 // the line bits that wait for their byte. Between lines: the last bits since the search began, fewer than the tail has,
 // and the unread bits of the last byte. A bit field holds its bits as a number, the last bit lowest; a field that has no
 // meaning is 0.
-#[derive(Clone, Copy)]
+#[derive(Clone, Copy, Debug, PartialEq, Eq)]
 pub struct State {
     pub in_line: bool,
     pub position: usize,
@@ -41,10 +42,10 @@ pub fn between(searched: u8, search: u64, left: u8, unread: u8) -> State
     State {
         in_line: false,
         position: 0,
-        search: search,
+        search,
         search_count: searched,
         register: 0,
-        unread: unread,
+        unread,
         unread_count: left,
         waiting: 0,
         waiting_count: 0,
@@ -57,22 +58,15 @@ pub fn inside(position: usize, register: u16, waiting: u8) -> State
 {
     State {
         in_line: true,
-        position: position,
+        position,
         search: 0,
         search_count: 0,
-        register: register,
+        register,
         unread: 0,
         unread_count: 0,
-        waiting: waiting,
+        waiting,
         waiting_count: (position % 8) as u8,
     }
-}
-
-// Inner. A byte as a word.
-fn wide(x: u8) -> u64
-    ensures { result ≡ x }
-{
-    x as u64
 }
 
 // Inner. Whether a bit field is not too large for its count.
@@ -85,50 +79,40 @@ fn fits(value: u64, count: u8) -> bool
 
 // Inner. Whether the waiting bits are the position modulo 8 and nothing is unread, inside a line; between lines, whether nothing
 // waits.
+#[tactic(auto, unfolding(crate::specs::Records::counts_of))]
 fn counts(s: State) -> bool
     ensures { result ≡ counts_of s }
 {
     if s.in_line {
-        if wide(s.waiting_count) != (s.position % 8) as u64 {
-            return false;
-        }
-        s.unread_count == 0
+        s.waiting_count as usize == s.position % 8 && s.unread_count == 0
     } else {
         s.waiting_count == 0
     }
 }
 
 // Inner. Whether the record is possible: refusal 12 is given exactly where it is not.
+#[tactic(auto, using(crate::proofs::Checked::counts_seven), unfolding(crate::specs::Records::possible_of))]
 fn possible(s: State) -> bool
     ensures { result ≡ possible_of s }
 {
-    if s.position >= Format::INFORMATION_BITS {
-        return false;
-    }
-    if s.search_count > 63 {
-        return false;
-    }
-    if s.register > scramble::FIFTEEN_ONES {
-        return false;
-    }
-    if s.unread_count > 7 {
-        return false;
-    }
-    if !fits(s.search, s.search_count) {
-        return false;
-    }
-    if !fits(wide(s.unread), s.unread_count) {
-        return false;
-    }
-    if !counts(s) {
-        return false;
-    }
-    fits(wide(s.waiting), s.waiting_count)
+    s.position < Format::INFORMATION_BITS
+        && s.search_count <= 63
+        && s.register <= scramble::FIFTEEN_ONES
+        && s.unread_count <= 7
+        && fits(s.search, s.search_count)
+        && fits(s.unread as u64, s.unread_count)
+        && counts(s)
+        && fits(s.waiting as u64, s.waiting_count)
 }
 
-// Inner. 12 for an impossible record; else 0.
-pub fn impossible(s: State) -> u8
-    ensures { result ≡ when (not (possible_of s)) 12 }
+// Inner. Refuses, with 12, an impossible record.
+#[tactic(auto, unfolding(refusals::specs::Refusals::when))]
+pub fn impossible(s: State) -> Result<(), Refusal>
+    ensures { answer_number result ≡ when (not (possible_of s)) 12 }
 {
-    if possible(s) { 0 } else { refusals::STATE }
+    if possible(s) {
+        Ok(())
+    } else {
+        Err(Refusal::State)
+    }
 }

@@ -1,3 +1,6 @@
+pub mod Numbers
+pub mod Answered
+pub mod Lent
 pub mod Words
 pub mod Given
 pub mod Chains

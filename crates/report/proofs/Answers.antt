@@ -1,29 +1,17 @@
 -- The answer of a call by its number, and what is known once it is not refused. Assumes nothing.
-use mathlib.Core.Path.{◌≡◌, sym, ap₂, ◌∙◌}
+use mathlib.Core.Path.{◌≡◌, sym}
 use mathlib.Core.Bool.{true}
 use Prim.Native.Nat.{ℕ, ◌+◌, ◌≤◌, ◌<◌}
 use native.Mathlib.Omega.{arith}
 use lib.Dec.{ltb}
 use borrow.Author.Tests.{le-ltb, lt-ltb, ltb-false}
-use Rattle.refusals.specs.Refusals.{first, kept, short_of}
-use Rattle.refusals.proofs.Words.{none_first, none_second, none_when, when_true, when_false, kept_some, kept_none, enough}
+use Rattle.refusals.specs.Refusals.{first, short_of}
+use Rattle.refusals.proofs.Words.{none_first, none_second, none_when, when_true, when_false, enough}
 use Rattle.formats.specs.Formats.{line_bytes, format_refusal}
 use Rattle.report_record.specs.declared.Report.{Report}
 use Rattle.report_record.specs.Possible.{most_lines, possible_report, record_refusal}
 use Rattle.report_record.proofs.Possible.{record_none}
-use Rattle.report.specs.declared.Reported.{Reported}
-use Rattle.report.specs.Calls.{full_refusal, with_line_refusal, together_refusal, reported}
-
--- ---- the answer, as the code makes it
-
-reported_is : (r k : ℕ) (x y : Report) → r ≡ k → x ≡ y → ◌≡◌ {A = Reported} (record { refused = r; report = x }) (record { refused = k; report = y })
-reported_is r k x y e h = ap₂ (λ (n : ℕ) (z : Report). record { refused = n; report = z }) e h
-
-pub reported_refused : (r k : ℕ) (was becomes : Report) → r ≡ k → (r ≡ 0 → ⊥) → record { refused = r; report = was } ≡ reported k was becomes
-reported_refused r k was becomes e some = reported_is r k was (kept k was becomes) e (sym (kept_some k was becomes (λ z. some (e ∙ z))))
-
-pub reported_done : (k : ℕ) (was becomes x : Report) → k ≡ 0 → x ≡ becomes → record { refused = 0; report = x } ≡ reported k was becomes
-reported_done k was becomes x e h = reported_is 0 k x (kept k was becomes) (sym e) (h ∙ sym (kept_none k was becomes e))
+use Rattle.report.specs.Calls.{full_refusal, with_line_refusal, together_refusal}
 
 -- ---- 15
 

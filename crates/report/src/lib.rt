@@ -1,5 +1,6 @@
 // The pass report: one record over all lines of a pass, by value. `empty` begins it, `with_line` adds a line, and `together` the
-// report of the next pass.
+// report of the next pass. A report is copied in, and a call gives the report after it: a refused call gives none, and the caller's own
+// stands as it was.
 //
 // The contracts cite `specs/Report.antt` of `report_record`, what the record is over a list of lines, and `specs/Calls.antt`,
 // the refusals and the answer of each call.
@@ -8,104 +9,70 @@
 #![tactic(auto)]
 
 ghost use Rattle.std.specs.Prelude.{◌≡◌};
+ghost use Rattle.refusals.specs.Refusals.{answer_number};
 ghost use Rattle.report_record.specs.Report.{empty_report};
 ghost use Rattle.report.specs.Calls.{full_refusal, with_line_refusal, with_line_answer, together_refusal, together_answer};
 
 use formats::{Format, check_start, format_refusal};
-use refusals::{first, short};
-use report_record::{MOST_LINES, Report, no_pixels, no_tally};
+use refusals::{Refusal, enough};
+use report_record::{MOST_LINES, Report};
 use report_whole::{add, line_report, record_refusal};
 
-// The answer of a call: refused with a number, or 0; and the report, as it was where the call is refused.
-#[derive(Clone, Copy)]
-pub struct Reported {
-    pub refused: u8,
-    pub report: Report,
-}
-
 // The report of no lines.
+#[tactic(auto, unfolding(report_record::specs::Report::empty_report, report_record::specs::Sums::row_of))]
 pub fn empty() -> Report
     ensures { result ≡ empty_report }
 {
-    let tally = no_tally();
-    let sectors = [tally; 12];
-    let channel = no_pixels();
-    let channels = [channel; 4];
-    Report {
-        lines: 0,
-        sectors: sectors,
-        channels: channels,
+    Report::default()
+}
+
+// Inner. Refuses, with 15, where so many lines and so many more are over the limit. The sum itself may not fit 64 bits.
+#[tactic(auto, unfolding(crate::specs::Calls::full_refusal, refusals::specs::Refusals::when))]
+fn full_refusal(lines: u64, more: u64) -> Result<(), Refusal>
+    ensures { answer_number result ≡ full_refusal lines more }
+{
+    if lines > MOST_LINES || more > MOST_LINES - lines {
+        Err(Refusal::Full)
+    } else {
+        Ok(())
     }
 }
 
-// Inner. 15 where so many lines and so many more are over the limit; else 0. The sum itself may not fit 64 bits.
-fn full_refusal(lines: u64, more: u64) -> u8
-    ensures { result ≡ full_refusal lines more }
+// Inner. What refuses one line more: 1, 12, 15, 2.
+#[tactic(auto, using(refusals::proofs::Numbers::refused_first, refusals::proofs::Numbers::passed_first), unfolding(crate::specs::Calls::with_line_refusal))]
+fn with_line_refusal(format: u8, report: Report, given: usize) -> Result<(), Refusal>
+    ensures { answer_number result ≡ with_line_refusal format report given }
 {
-    if lines > MOST_LINES {
-        return refusals::FULL;
-    }
-    if more > MOST_LINES - lines {
-        return refusals::FULL;
-    }
-    0
+    format_refusal(format)?;
+    record_refusal(report)?;
+    full_refusal(report.lines, 1)?;
+    enough(given, Format::LINE_BYTES, Refusal::ShortInput)
 }
 
-// Inner. What refuses one line more: 1, 12, 15, 2; else 0.
-fn with_line_refusal(format: u8, report: Report, given: usize) -> u8
-    ensures { result ≡ with_line_refusal format report given }
+// Inner. What refuses two reports together: 12 of the first, 12 of the second, 15.
+#[tactic(auto, unfolding(crate::specs::Calls::together_refusal, refusals::specs::Refusals::first))]
+fn together_refusal(a: Report, b: Report) -> Result<(), Refusal>
+    ensures { answer_number result ≡ together_refusal a b }
 {
-    let impossible = record_refusal(report);
-    let full = full_refusal(report.lines, 1);
-    let missing = short(given, Format::LINE_BYTES, refusals::SHORT_INPUT);
-    first(
-        format_refusal(format),
-        first(impossible, first(full, missing)),
-    )
-}
-
-// Inner. What refuses two reports together: 12 of the first, 12 of the second, 15; else 0.
-fn together_refusal(a: Report, b: Report) -> u8
-    ensures { result ≡ together_refusal a b }
-{
-    let impossible = first(record_refusal(a), record_refusal(b));
-    let full = full_refusal(a.lines, b.lines);
-    first(impossible, full)
+    record_refusal(a)?;
+    record_refusal(b)?;
+    full_refusal(a.lines, b.lines)
 }
 
 // The report with one line more, which stands in a buffer of 44,356 bytes or more. Refused with 1, 12, 15, 2.
-pub fn with_line(format: u8, report: Report, line: &[u8]) -> Reported
+#[tactic(auto, unfolding(crate::specs::Calls::with_line_answer, refusals::specs::Refusals::answered))]
+pub fn with_line(format: u8, report: Report, line: &[u8]) -> Result<Report, Refusal>
     ensures { result ≡ with_line_answer format report line.now }
 {
-    let refused = with_line_refusal(format, report, line.len());
-    if refused != 0 {
-        return Reported {
-            refused: refused,
-            report: report,
-        };
-    }
-    let one = line_report(check_start(format), line);
-    let both = add(report, one);
-    Reported {
-        refused: 0,
-        report: both,
-    }
+    with_line_refusal(format, report, line.len())?;
+    Ok(add(report, line_report(check_start(format), line)))
 }
 
-// The report of two passes, one after the other. Refused with 12 of either and 15, and then the first comes back.
-pub fn together(a: Report, b: Report) -> Reported
+// The report of two passes, one after the other. Refused with 12 of either and 15.
+#[tactic(auto, unfolding(crate::specs::Calls::together_answer, refusals::specs::Refusals::answered))]
+pub fn together(a: Report, b: Report) -> Result<Report, Refusal>
     ensures { result ≡ together_answer a b }
 {
-    let refused = together_refusal(a, b);
-    if refused != 0 {
-        return Reported {
-            refused: refused,
-            report: a,
-        };
-    }
-    let both = add(a, b);
-    Reported {
-        refused: 0,
-        report: both,
-    }
+    together_refusal(a, b)?;
+    Ok(add(a, b))
 }

@@ -1,10 +1,12 @@
 -- One line's sectors: where their pixels lie, and the report that they make with their tallies. Assumes nothing.
-use mathlib.Core.Path.{◌≡◌, refl, sym, ap, ap₂, ◌∙◌}
+use mathlib.Core.Path.{◌≡◌, refl, sym, ap, ap₂, subst, ◌∙◌}
 use mathlib.Core.Bool.{Bool, true, false, cond, ◌&&◌}
+use mathlib.Core.Logic.{◌⊎◌, inl, inr}
 use mathlib.Core.List.{List, [], ◌∷◌}
-use Prim.Native.Nat.{ℕ, suc, ◌+◌, ◌*◌, ◌≤◌, ◌<◌}
+use Prim.Native.Nat.{ℕ, suc, ◌+◌, ◌*◌, ◌^◌, ◌≤◌, ◌<◌}
 use native.Mathlib.Omega.{arith}
 use lib.Dec.{eqb}
+use Rattle.std.specs.Prelude.{None}
 use borrow.Author.Tests.{ne_eqb}
 use lib.ListN.{length, get_or, drop}
 use Rattle.refusals.specs.Refusals.{when}
@@ -21,18 +23,25 @@ use Rattle.report_record.specs.declared.Tally.{Tally}
 use Rattle.report_record.specs.declared.Channel.{Channel}
 use Rattle.report_record.specs.Sums.{total_of, row_of}
 use Rattle.report_record.specs.Report.{lines_answering, tally_of, given, accepts, pair_pixels, wide_pixels, ir_pixels, pixels_in, channel_of, report_by, no_tally, no_channel}
-use Rattle.report_record.proofs.Adding.{channel_none, row_one}
-use Rattle.report_record.proofs.Rows.{row_at, and_fails}
+use Rattle.report_record.proofs.Adding.{channel_none, channel_same, row_one}
+use Rattle.report_record.proofs.Rows.{row_at, and_fails, and_fails_left}
 
 -- ---- the pixels of a channel of one line, accepted or not
 
-pub given_none : (t : Bool) (xs : List ℕ) → t ≡ false → no_channel ≡ channel_of (given t xs)
+given_none : (t : Bool) (xs : List ℕ) → t ≡ false → no_channel ≡ channel_of (given t xs)
 unfolding given
 given_none t xs e = rw e (sym channel_none)
 
--- a pair whose lower sector is not accepted
-pub lower_absent : (r : Channel) (u l : ℕ) (xs : List ℕ) → r ≡ no_channel → (l ≡ 1 → ⊥) → r ≡ channel_of (given (eqb u 1 && eqb l 1) xs)
-lower_absent r u l xs e ne = e ∙ given_none (eqb u 1 && eqb l 1) xs (and_fails (eqb u 1) (eqb l 1) (ne_eqb l 1 ne))
+-- a channel without pixels, as the code makes it, where a sector is not accepted, or one of two
+abbrev pub Without : Channel → Type 0
+Without r = (r.count ≡ 0) × ((r.sum ≡ 0) × (r.range ≡ None))
+
+pub wide_none : (r : Channel) (t : ℕ) (xs : List ℕ) → Without r → (t ≡ 1 → ⊥) → r ≡ channel_of (given (eqb t 1) xs)
+wide_none r t xs w ne = channel_same w.0 w.1.0 w.1.1 ∙ given_none (eqb t 1) xs (ne_eqb t 1 ne)
+
+pub pair_none : (r : Channel) (u l : ℕ) (xs : List ℕ) → Without r → (u ≡ 1 → ⊥) ⊎ ((u ≡ 1) × (l ≡ 1 → ⊥)) → r ≡ channel_of (given (eqb u 1 && eqb l 1) xs)
+pair_none r u l xs w (inl ne) = channel_same w.0 w.1.0 w.1.1 ∙ given_none (eqb u 1 && eqb l 1) xs (and_fails_left (eqb u 1) (eqb l 1) (ne_eqb u 1 ne))
+pair_none r u l xs w (inr h) = channel_same w.0 w.1.0 w.1.1 ∙ given_none (eqb u 1 && eqb l 1) xs (and_fails (eqb u 1) (eqb l 1) (ne_eqb l 1 h.1))
 
 pub given_some : (t : Bool) (xs : List ℕ) → t ≡ true → channel_of xs ≡ channel_of (given t xs)
 unfolding given
@@ -74,6 +83,26 @@ pub row_places : (w : ℕ) (l : Layout) → Row w l → data_at l + 2291 * w ≤
 row_places w l r =
     let d : l.data_bits ≡ 2291 * w = r.sound.pixels ∙ ap₂ (λ (x y : ℕ). x * y) r.many r.wide in
     omega (arith, r.sound.inside, r.sound.whole)
+
+-- an upper row and a lower one, as the code has found them
+pub record PairRows (u l : Layout) (c : ℕ) : Type 0 where
+  pub upper : Row 8 u
+  pub lower : Row 2 l
+
+pub pair_rows : (u l : Layout) (c : ℕ) → u ≡ layout_of (c + 1) → l ≡ layout_of (c + 8) → 1 ≤ c → c ≤ 3 → PairRows u l c
+pair_rows u l c eu el lo hi = record { upper = subst (Row 8) (sym eu) (upper_row c lo hi); lower = subst (Row 2) (sym el) (lower_row c lo hi) }
+
+pub pair_inside : (u l : Layout) (c len : ℕ) → PairRows u l c → line_bytes ≤ len
+    → (data_at u + u.count * 8 ≤ 8 * len) × (data_at l + u.count * 2 ≤ 8 * len) × (data_at u + u.count * 8 < 2 ^ 64) × (data_at l + u.count * 2 < 2 ^ 64) × (1 ≤ u.count) × (u.count ≤ 2291)
+pair_inside u l c len p long =
+    let m = p.upper.many in
+    (omega (arith, m, row_inside 8 u len p.upper long), omega (arith, m, row_inside 2 l len p.lower long), omega (arith, m, row_places 8 u p.upper), omega (arith, m, row_places 2 l p.lower), omega (arith, m), omega (arith, m))
+
+pub wide_inside : (l : Layout) (len : ℕ) → Row 10 l → line_bytes ≤ len
+    → (data_at l + l.count * 10 ≤ 8 * len) × (data_at l + l.count * 10 < 2 ^ 64) × (1 ≤ l.count) × (l.count ≤ 2291)
+wide_inside l len r long =
+    let m = r.many in
+    (omega (arith, m, row_inside 10 l len r long), omega (arith, m, row_places 10 l r), omega (arith, m), omega (arith, m))
 
 -- ---- the report of one line
 

@@ -15,15 +15,14 @@ ghost use Rattle.sector_check.specs.Sector.{joined_of, pixels_of};
 ghost use Rattle.report_record.specs.Report.{given, channel_of};
 ghost use Rattle.report_line.specs.Line.{first_pixel, with_pixel, folded};
 
-use report_record::{Channel, Range, Tally, greater, lesser, no_pixels};
+use report_record::{Channel, Range, Tally};
 use sector_table::layout::layout_of;
 
 // Some pixels, folded: their sum, their least and their largest.
-#[derive(Clone, Copy)]
+#[derive(Clone, Copy, Debug, PartialEq, Eq)]
 pub struct Fold {
     pub sum: u64,
-    pub least: u16,
-    pub largest: u16,
+    pub range: Range,
 }
 
 // Inner. One pixel alone.
@@ -32,8 +31,10 @@ fn first_pixel(p: u16) -> Fold
 {
     Fold {
         sum: p as u64,
-        least: p,
-        largest: p,
+        range: Range {
+            least: p,
+            largest: p,
+        },
     }
 }
 
@@ -44,8 +45,10 @@ fn with_pixel(f: Fold, p: u16) -> Fold
 {
     Fold {
         sum: f.sum + p as u64,
-        least: lesser(f.least, p),
-        largest: greater(f.largest, p),
+        range: Range {
+            least: f.range.least.min(p),
+            largest: f.range.largest.max(p),
+        },
     }
 }
 
@@ -56,10 +59,7 @@ fn channel(n: usize, f: Fold) -> Channel
     Channel {
         count: n as u64,
         sum: f.sum,
-        range: Range::From {
-            least: f.least,
-            largest: f.largest,
-        },
+        range: Some(f.range),
     }
 }
 
@@ -77,16 +77,10 @@ fn pair_run(line: &[u8], upper: usize, lower: usize, n: usize) -> Channel
     ensures { result ≡ channel_of (joined_of (fields_of 8 n (drop upper (bits_of line.now))) (fields_of 2 n (drop lower (bits_of line.now)))) }
 {
     let mut f = first_pixel(pair_pixel(line, upper, lower));
-    let mut i: usize = 1;
-    let mut high = upper + 8;
-    let mut low = lower + 2;
-    while i < n {
-        f = with_pixel(f, pair_pixel(line, high, low));
-        high += 8;
-        low += 2;
-        i += 1;
+    for i in 1..n {
+        f = with_pixel(f, pair_pixel(line, upper + i * 8, lower + i * 2));
     }
-    channel(i, f)
+    channel(n, f)
 }
 
 // Inner. The first n pixels of ten bits, one at least, from a place on, folded.
@@ -95,27 +89,19 @@ fn wide_run(line: &[u8], at: usize, n: usize) -> Channel
     ensures { result ≡ channel_of (fields_of 10 n (drop at (bits_of line.now))) }
 {
     let mut f = first_pixel(slices::field(line, at, 10));
-    let mut i: usize = 1;
-    let mut place = at + 10;
-    while i < n {
-        f = with_pixel(f, slices::field(line, place, 10));
-        place += 10;
-        i += 1;
+    for i in 1..n {
+        f = with_pixel(f, slices::field(line, at + i * 10, 10));
     }
-    channel(i, f)
+    channel(n, f)
 }
 
 // Inner. IR1-3 of one line, with the tallies of its upper and its lower sector: no pixel where either is not accepted.
-#[tactic(auto, using(crate::proofs::Sectors::lower_absent))]
 pub fn pair_channel(upper: Tally, lower: Tally, channel: u8, line: &[u8]) -> Channel
     requires { (1 ≤ channel) × (channel ≤ 3) × (line_bytes ≤ length line.now) }
     ensures { result ≡ channel_of (given (eqb upper.accepted 1 && eqb lower.accepted 1) (joined_of (pixels_of (upper_of channel) (bits_of line.now)) (pixels_of (lower_of channel) (bits_of line.now)))) }
 {
-    if upper.accepted != 1 {
-        return no_pixels();
-    }
-    if lower.accepted != 1 {
-        return no_pixels();
+    if upper.accepted != 1 || lower.accepted != 1 {
+        return Channel::default();
     }
     let u = layout_of(channel + 1);
     let l = layout_of(channel + 8);
@@ -128,7 +114,7 @@ pub fn wide_channel(last: Tally, line: &[u8]) -> Channel
     ensures { result ≡ channel_of (given (eqb last.accepted 1) (pixels_of (layout_of 12) (bits_of line.now))) }
 {
     if last.accepted != 1 {
-        return no_pixels();
+        return Channel::default();
     }
     let l = layout_of(12);
     wide_run(line, l.start + l.id_bits, l.count)

@@ -6,6 +6,7 @@ use native.Mathlib.Nat.{add_assoc}
 use native.Mathlib.Omega.{arith}
 use lib.ListN.{length-append}
 use Rattle.bits.specs.Bits.{in_arow}
+use Rattle.std.specs.Prelude.{Option}
 use Rattle.report_record.specs.declared.Range.{Range}
 use Rattle.report_record.specs.declared.Tally.{Tally}
 use Rattle.report_record.specs.declared.Channel.{Channel}
@@ -27,10 +28,10 @@ row_append g (x ∷ xs) ys =
 pub row_one : {A : Type 0} (g : A → List ℕ) (x : A) → in_arow (map g (x ∷ [])) ≡ g x
 row_one g x = append-nil (g x)
 
-pub channel_same : {n m s t : ℕ} {a b : Range} → n ≡ m → s ≡ t → a ≡ b
+pub channel_same : {n m s t : ℕ} {a b : Option Range} → n ≡ m → s ≡ t → a ≡ b
     → ◌≡◌ {A = Channel} (record { count = n; sum = s; range = a }) (record { count = m; sum = t; range = b })
 channel_same {n} {m} {s} {t} {a} {b} e d r =
-    ap₂ (λ (x y : ℕ). record { count = x; sum = y; range = a }) e d ∙ ap (λ (z : Range). record { count = m; sum = t; range = z }) r
+    ap₂ (λ (x y : ℕ). record { count = x; sum = y; range = a }) e d ∙ ap (λ (z : Option Range). record { count = m; sum = t; range = z }) r
 
 pub channel_append : (xs ys : List ℕ) → channel_of (xs ++ ys) ≡ add_channel (channel_of xs) (channel_of ys)
 unfolding channel_of

@@ -4,7 +4,7 @@ use mathlib.Core.Bool.{Bool, true, false, not, ◌&&◌}
 use Prim.Native.Nat.{ℕ, ◌+◌, ◌*◌, ◌^◌, ◌≤◌, ◌<◌}
 use native.Mathlib.Omega.{arith}
 use lib.Dec.{eqb, leb}
-use borrow.Author.Tests.{eqb-true, leb-true, not-false, eq-eqb, le-leb, ne_eqb, lt-leb}
+use borrow.Author.Tests.{eqb-true, leb-true, not-false, eq-eqb, le-leb, lt-leb}
 use Rattle.refusals.specs.Refusals.{when}
 use Rattle.refusals.proofs.Words.{none_when}
 use Rattle.report_record.specs.declared.Tally.{Tally}
@@ -35,15 +35,6 @@ pub tally_sound : (lines : ℕ) (t : Tally) → TallyFits lines t → sound_tall
 unfolding sound_tally
 tally_sound lines t f =
     and_both (eqb (t.accepted + t.remainder + t.id) lines) (leb t.filler (2048 * lines)) (eq-eqb _ _ f.adds) (le-leb _ _ f.filler)
-
-pub tally_off : (lines : ℕ) (t : Tally) → (t.accepted + t.remainder + t.id ≡ lines → ⊥) → sound_tally lines t ≡ false
-unfolding sound_tally
-tally_off lines t ne =
-    and_fails_left (eqb (t.accepted + t.remainder + t.id) lines) (leb t.filler (2048 * lines)) (ne_eqb (t.accepted + t.remainder + t.id) lines ne)
-
-pub tally_rest : (lines : ℕ) (t : Tally) → t.accepted + t.remainder + t.id ≡ lines → leb t.filler (2048 * lines) ≡ sound_tally lines t
-unfolding sound_tally
-tally_rest lines t e = rw (eq-eqb (t.accepted + t.remainder + t.id) lines e) refl
 
 pub channel_fits : (lines : ℕ) (c : Channel) → sound_channel lines c ≡ true → ChannelFits lines c
 unfolding sound_channel

@@ -6,39 +6,42 @@ use mathlib.Core.Logic.{◌↔◌, ◌⊎◌, inl, inr, ⊎_elim}
 use lib.Dec.{leb}
 use borrow.Author.Tests.{leb-true, leb-false}
 use mathlib.Core.List.{List, [], ◌∷◌, ◌++◌}
-use Prim.Native.Nat.{ℕ, ◌+◌, ◌≤◌, ◌<◌, min, max}
+use Prim.Native.Nat.{ℕ, ◌≤◌, ◌<◌, min, max}
 use native.Mathlib.Nat.{suc-ne-zero}
 use native.Mathlib.Omega.{arith}
 use lib.ListN.{length}
+use Rattle.std.specs.Prelude.{Option, Some, None}
 use Rattle.report_record.specs.declared.Range.{Range}
-use Rattle.report_record.specs.declared.Range.TheVariants.{Absent, From}
 use Rattle.report_record.specs.Report.{wider, range_of, Among, Bounds, Says}
 
-pub from_same : {l m h g : ℕ} → l ≡ m → h ≡ g → From l h ≡ From m g
-from_same e d = ap₂ From e d
+abbrev pub from : ℕ → ℕ → Option Range
+from l h = Some (record { least = l; largest = h })
 
-pub wider_absent : (a : Range) → wider a Absent ≡ a
-wider_absent Absent = refl
-wider_absent (From l h) = refl
+pub from_same : {l m h g : ℕ} → l ≡ m → h ≡ g → from l h ≡ from m g
+from_same e d = ap₂ from e d
 
-pub wider_comm : (a b : Range) → wider a b ≡ wider b a
-wider_comm Absent Absent = refl
-wider_comm Absent (From m g) = refl
-wider_comm (From l h) Absent = refl
-wider_comm (From l h) (From m g) = from_same (omega arith) (omega arith)
+pub wider_absent : (a : Option Range) → wider a None ≡ a
+wider_absent None = refl
+wider_absent (Some r) = refl
 
-pub wider_assoc : (a b c : Range) → wider (wider a b) c ≡ wider a (wider b c)
-wider_assoc Absent b c = refl
-wider_assoc (From l h) Absent c = refl
-wider_assoc (From l h) (From m g) Absent = refl
-wider_assoc (From l h) (From m g) (From n f) = from_same (omega arith) (omega arith)
+pub wider_comm : (a b : Option Range) → wider a b ≡ wider b a
+wider_comm None None = refl
+wider_comm None (Some s) = refl
+wider_comm (Some r) None = refl
+wider_comm (Some r) (Some s) = from_same (omega arith) (omega arith)
+
+pub wider_assoc : (a b c : Option Range) → wider (wider a b) c ≡ wider a (wider b c)
+wider_assoc None b c = refl
+wider_assoc (Some r) None c = refl
+wider_assoc (Some r) (Some s) None = refl
+wider_assoc (Some r) (Some s) (Some t) = from_same (omega arith) (omega arith)
 
 pub range_append : (xs ys : List ℕ) → range_of (xs ++ ys) ≡ wider (range_of xs) (range_of ys)
 unfolding range_of
 range_append [] ys = refl
-range_append (x ∷ xs) ys = ap (wider (From x x)) (range_append xs ys) ∙ sym (wider_assoc (From x x) (range_of xs) (range_of ys))
+range_append (x ∷ xs) ys = ap (wider (from x x)) (range_append xs ys) ∙ sym (wider_assoc (from x x) (range_of xs) (range_of ys))
 
--- ---- ABSENT EXACTLY WHERE THERE ARE NO PIXELS; else attained bounds
+-- ---- NONE EXACTLY WHERE THERE ARE NO PIXELS; else attained bounds
 
 lesser_in : (x l : ℕ) (xs : List ℕ) → Among l xs → Among (min x l) (x ∷ xs)
 unfolding Among
@@ -56,9 +59,9 @@ greater_in x g xs m = by (leb g x) refl
     by true e = let h : g ≤ x = leb-true g x e in inl (omega arith)
     by false e = let h : x < g = leb-false g x e in let z : g ≡ max x g = omega arith in inr (subst (λ (k : ℕ). Among k xs) z m)
 
-says_more : (x : ℕ) (xs : List ℕ) (r : Range) → Says xs r → Says (x ∷ xs) (wider (From x x) r)
+says_more : (x : ℕ) (xs : List ℕ) (r : Option Range) → Says xs r → Says (x ∷ xs) (wider (from x x) r)
 unfolding Says Among
-says_more x xs Absent e =
+says_more x xs None e =
     let gone : (y : ℕ) → Among y xs → ⊥ = λ y m. subst (λ (l : List ℕ). Among y l) e m in
     record {
       least_in = inl refl;
@@ -66,10 +69,10 @@ says_more x xs Absent e =
       least = λ y m. ⊎_elim (λ (h : y ≡ x). omega arith) (λ (w : Among y xs). absurd (gone y w)) m;
       largest = λ y m. ⊎_elim (λ (h : y ≡ x). omega arith) (λ (w : Among y xs). absurd (gone y w)) m;
     }
-says_more x xs (From l h) b =
+says_more x xs (Some r) b =
     record {
-      least_in = lesser_in x l xs b.least_in;
-      largest_in = greater_in x h xs b.largest_in;
+      least_in = lesser_in x r.least xs b.least_in;
+      largest_in = greater_in x r.largest xs b.largest_in;
       least = λ y m. ⊎_elim (λ (e : y ≡ x). omega arith) (λ (w : Among y xs). omega (arith, b.least y w)) m;
       largest = λ y m. ⊎_elim (λ (e : y ≡ x). omega arith) (λ (w : Among y xs). omega (arith, b.largest y w)) m;
     }
@@ -84,27 +87,27 @@ none_in : (lo hi : ℕ) → Bounds [] lo hi → ⊥
 unfolding Among
 none_in lo hi b = b.least_in
 
-pub says_only : (xs : List ℕ) (r s : Range) → Says xs r → Says xs s → r ≡ s
+pub says_only : (xs : List ℕ) (r s : Option Range) → Says xs r → Says xs s → r ≡ s
 unfolding Says
-says_only xs Absent Absent p q = refl
-says_only xs Absent (From l h) p q = absurd (none_in l h (subst (λ (k : List ℕ). Bounds k l h) p q))
-says_only xs (From l h) Absent p q = absurd (none_in l h (subst (λ (k : List ℕ). Bounds k l h) q p))
-says_only xs (From l h) (From m g) p q =
-    let a : l ≤ m = p.least m q.least_in in
-    let b : m ≤ l = q.least l p.least_in in
-    let c : h ≤ g = q.largest h p.largest_in in
-    let d : g ≤ h = p.largest g q.largest_in in
+says_only xs None None p q = refl
+says_only xs None (Some r) p q = absurd (none_in r.least r.largest (subst (λ (k : List ℕ). Bounds k r.least r.largest) p q))
+says_only xs (Some r) None p q = absurd (none_in r.least r.largest (subst (λ (k : List ℕ). Bounds k r.least r.largest) q p))
+says_only xs (Some r) (Some s) p q =
+    let a : r.least ≤ s.least = p.least s.least q.least_in in
+    let b : s.least ≤ r.least = q.least r.least p.least_in in
+    let c : r.largest ≤ s.largest = q.largest r.largest p.largest_in in
+    let d : s.largest ≤ r.largest = p.largest s.largest q.largest_in in
     from_same (omega arith) (omega arith)
 
-pub range_exactly : (xs : List ℕ) (r : Range) → (range_of xs ≡ r) ↔ Says xs r
+pub range_exactly : (xs : List ℕ) (r : Option Range) → (range_of xs ≡ r) ↔ Says xs r
 range_exactly xs r = (λ e. subst (Says xs) e (range_says xs), λ s. says_only xs (range_of xs) r (range_says xs) s)
 
-pub absent_exactly : (xs : List ℕ) → (range_of xs ≡ Absent) ↔ (length xs ≡ 0)
-absent_exactly xs = (λ e. ap length (to xs ((range_exactly xs Absent).0 e)), λ e. from xs e)
+pub absent_exactly : (xs : List ℕ) → (range_of xs ≡ None) ↔ (length xs ≡ 0)
+absent_exactly xs = (λ e. ap length (to xs ((range_exactly xs None).0 e)), λ e. from xs e)
   where
-    to : (ys : List ℕ) → Says ys Absent → ys ≡ []
+    to : (ys : List ℕ) → Says ys None → ys ≡ []
     to ys s = unfold Says in s
 
-    from : (ys : List ℕ) → length ys ≡ 0 → range_of ys ≡ Absent
+    from : (ys : List ℕ) → length ys ≡ 0 → range_of ys ≡ None
     from [] e = unfold range_of in refl
     from (y ∷ ys) e = absurd (suc-ne-zero (length ys) e)

@@ -1,15 +1,16 @@
 -- Rows and tests over the numbers below k. Assumes nothing.
 use mathlib.Core.Path.{◌≡◌, refl, sym, ap, ap₂, subst, ◌∙◌}
-use mathlib.Core.Bool.{Bool, true, false, ◌&&◌}
+use mathlib.Core.Bool.{Bool, true, false, ◌&&◌, and_assoc, and-true}
 use mathlib.Core.List.{List, [], ◌∷◌, ◌++◌}
 use Prim.Native.Nat.{ℕ, zero, suc, ◌+◌, ◌≤◌, ◌<◌}
 use native.Mathlib.Nat.{not-suc-le-zero}
 use native.Mathlib.Numerals.{add-one}
 use native.Mathlib.Omega.{arith}
 use lib.Dec.{eqb}
-use lib.ListN.{length, get_or, take, set, length-append, get_or-append}
+use lib.ListN.{length, get_or, take, set, length-append, length-set, get_or-append}
 use lib.Seq.{take-suc, take-suc-set, take_all, get_or_at}
 use borrow.Author.Tests.{eqb-true, eqb-false}
+use Rattle.std.specs.List.{list_all}
 use Rattle.report_record.specs.Sums.{row_of, all_of}
 
 -- ---- rows
@@ -20,14 +21,17 @@ module _ {A : Type 0} where
   length_row g zero = refl
   length_row g (suc k) = length-append (row_of g k) (g k ∷ []) ∙ ap (λ (n : ℕ). n + 1) (length_row g k) ∙ add-one k
 
-  pub row_none : (g : ℕ → A) (xs : List A) → take 0 xs ≡ row_of g 0
+  -- A LOOP THAT FILLS AN ARRAY: before it begins, a turn, and once it is done
+  pub row_none : (g : ℕ → A) (xs : List A) (k : ℕ) → length xs ≡ k → (take 0 xs ≡ row_of g 0) × (length xs ≡ k)
   unfolding row_of
-  row_none g xs = refl
+  row_none g xs k l = (refl, l)
 
-  -- THE TURN of a loop that fills an array
-  pub row_turn : (g : ℕ → A) (xs : List A) (i : ℕ) (v : A) → take i xs ≡ row_of g i → v ≡ g i → i < length xs → take (i + 1) (set xs i v) ≡ row_of g (i + 1)
+  pub row_turn : (g : ℕ → A) (xs : List A) (k i : ℕ) (v : A) → (take i xs ≡ row_of g i) × (length xs ≡ k) → v ≡ g i → i < k
+      → (take (i + 1) (set xs i v) ≡ row_of g (i + 1)) × (length (set xs i v) ≡ k)
   unfolding row_of
-  row_turn g xs i v e h p = rw add-one (take-suc-set xs i v p ∙ ap₂ (λ (l : List A) (x : A). l ++ (x ∷ [])) e h)
+  row_turn g xs k i v e h p =
+      let l = e.1 in
+      (rw add-one (take-suc-set xs i v (omega arith) ∙ ap₂ (λ (m : List A) (x : A). m ++ (x ∷ [])) e.0 h), length-set xs i v ∙ l)
 
   pub row_done : (g : ℕ → A) (xs : List A) (k i : ℕ) → take i xs ≡ row_of g i → i ≡ k → length xs ≡ k → xs ≡ row_of g k
   row_done g xs k i e h l = sym (take_all k xs (omega arith)) ∙ subst (λ (j : ℕ). take j xs ≡ row_of g j) h e
@@ -60,6 +64,10 @@ module _ {A : Type 0} where
   -- a list of k elements is the row of them
   pub row_list : (xs : List A) (k : ℕ) (d : A) → length xs ≡ k → row_of (λ (i : ℕ). get_or xs i d) k ≡ xs
   row_list xs k d l = sym (row_done (λ (i : ℕ). get_or xs i d) xs k k (row_front xs d k (omega arith)) refl l)
+
+  -- and a list whose elements are those of a row is the row
+  pub row_is : (g : ℕ → A) (xs : List A) (k : ℕ) (d : A) → length xs ≡ k → ((i : ℕ) → i < k → get_or xs i d ≡ g i) → xs ≡ row_of g k
+  row_is g xs k d l e = sym (row_list xs k d l) ∙ row_same (λ (i : ℕ). get_or xs i d) g k e
 
 -- ---- tests
 
@@ -112,3 +120,16 @@ all_fails t k i p e = by (all_of t k) refl
     by : (b : Bool) → all_of t k ≡ b → b ≡ false
     by true h = absurd (let w = all_at t k i p h in let z : ◌≡◌ {A = ℕ} 0 1 = cc in omega arith)
     by false h = refl
+
+-- a test of every element of a list
+all_front : (t : ℕ → Bool) (k : ℕ) → all_of t (suc k) ≡ (t 0 && all_of (λ (i : ℕ). t (suc i)) k)
+unfolding all_of
+all_front t zero = sym (and-true (t 0))
+all_front t (suc k) = ap (λ (b : Bool). b && t (suc k)) (all_front t k) ∙ and_assoc (t 0) (all_of (λ (i : ℕ). t (suc i)) k) (t (suc k))
+
+pub all_list : {A : Type 0} (t : A → Bool) (xs : List A) (k : ℕ) (d : A) → length xs ≡ k → list_all t xs ≡ all_of (λ (i : ℕ). t (get_or xs i d)) k
+all_list {A} t xs k d l = subst (λ (n : ℕ). list_all t xs ≡ all_of (λ (i : ℕ). t (get_or xs i d)) n) l (whole xs)
+  where
+    whole : (ys : List A) → list_all t ys ≡ all_of (λ (i : ℕ). t (get_or ys i d)) (length ys)
+    whole [] = sym (all_none (λ (i : ℕ). t (get_or [] i d)))
+    whole (y ∷ ys) = ap (λ (b : Bool). t y && b) (whole ys) ∙ sym (all_front (λ (i : ℕ). t (get_or (y ∷ ys) i d)) (length ys))

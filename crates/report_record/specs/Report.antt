@@ -1,13 +1,12 @@
 -- THE PASS REPORT over a list of plain lines, each its bits: what the record is, and what two of them added are. `start` is the
 -- start value of the check, which is all that a format has to say here. Assumes nothing.
-use Rattle.std.specs.Prelude.{ℕ, suc, ◌+◌, ◌≤◌, ◌<◌, min, max, Bool, true, false, cond, ◌&&◌, ◌≡◌, ◌⊎◌, List, [], ◌∷◌, map, eqb, length, get_or}
+use Rattle.std.specs.Prelude.{ℕ, suc, ◌+◌, ◌≤◌, ◌<◌, min, max, Bool, true, false, cond, ◌&&◌, ◌≡◌, ◌⊎◌, List, [], ◌∷◌, map, eqb, length, get_or, Option, Some, None}
 use Rattle.bits.specs.Bits.{Below, in_arow}
 use Rattle.refusals.specs.Refusals.{when}
 use Rattle.formats.specs.Formats.{check_start}
 use Rattle.sector_table.specs.Layout.{layout_of, upper_of, lower_of}
 use Rattle.sector_check.specs.Sector.{answer_of, filler_of, pixels_of, joined_of}
 use Rattle.report_record.specs.declared.Range.{Range}
-use Rattle.report_record.specs.declared.Range.TheVariants.{Absent, From}
 use Rattle.report_record.specs.declared.Tally.{Tally}
 use Rattle.report_record.specs.declared.Channel.{Channel}
 use Rattle.report_record.specs.declared.Report.{Report}
@@ -65,21 +64,21 @@ pub record Bounds (xs : List ℕ) (lo hi : ℕ) : Type 0 where
   pub least : (x : ℕ) → Among x xs → lo ≤ x
   pub largest : (x : ℕ) → Among x xs → x ≤ hi
 
--- WHAT A RANGE SAYS OF NUMBERS: absent, that there are none; else their attained bounds
-unfoldable pub Says : List ℕ → Range → Type 0
-Says xs Absent = xs ≡ []
-Says xs (From lo hi) = Bounds xs lo hi
+-- WHAT A RANGE SAYS OF NUMBERS: none, that there are none; else their attained bounds
+unfoldable pub Says : List ℕ → Option Range → Type 0
+Says xs None = xs ≡ []
+Says xs (Some r) = Bounds xs r.least r.largest
 
 -- two ranges as one: the lesser least, the greater largest
-abbrev pub wider : Range → Range → Range
-wider Absent b = b
-wider (From l h) Absent = From l h
-wider (From l h) (From m g) = From (min l m) (max h g)
+abbrev pub wider : Option Range → Option Range → Option Range
+wider None b = b
+wider (Some a) None = Some a
+wider (Some a) (Some b) = Some (record { least = min a.least b.least; largest = max a.largest b.largest })
 
 -- the one range that says it (`range_exactly`, in proofs/Ranges)
-unfoldable pub range_of : List ℕ → Range
-range_of [] = Absent
-range_of (x ∷ xs) = wider (From x x) (range_of xs)
+unfoldable pub range_of : List ℕ → Option Range
+range_of [] = None
+range_of (x ∷ xs) = wider (Some (record { least = x; largest = x })) (range_of xs)
 
 -- count, sum, least and largest
 unfoldable pub channel_of : List ℕ → Channel
@@ -110,7 +109,7 @@ abbrev pub no_tally : Tally
 no_tally = record { accepted = 0; remainder = 0; id = 0; filler = 0 }
 
 abbrev pub no_channel : Channel
-no_channel = record { count = 0; sum = 0; range = Absent }
+no_channel = record { count = 0; sum = 0; range = None }
 
 -- sector i + 1, channel i + 1
 abbrev pub tally_at : Report → ℕ → Tally

@@ -6,8 +6,8 @@
 // All functions here are inner; those that add ask for room, so that no sum is over 64 bits.
 #![tactic(auto)]
 
-ghost use Rattle.std.specs.Prelude.{◌≡◌, ◌+◌, ◌^◌, ◌≤◌, ◌<◌, min, max};
-ghost use Rattle.report_record.specs.Report.{wider, add_tally, add_channel, no_tally, no_channel};
+ghost use Rattle.std.specs.Prelude.{◌≡◌, ◌+◌, ◌^◌, ◌≤◌, ◌<◌};
+ghost use Rattle.report_record.specs.Report.{wider, add_tally, add_channel};
 ghost use Rattle.report_record.specs.Possible.{most_lines, sound_tally, sound_channel};
 
 // The most lines of a report.
@@ -20,15 +20,15 @@ const LINE_PIXELS: u64 = 2291;
 
 const LINE_SUM: u64 = 2343693;
 
-// The least and the largest of some pixels; absent where there are none.
-#[derive(Clone, Copy)]
-pub enum Range {
-    Absent,
-    From { least: u16, largest: u16 },
+// The least and the largest of some pixels.
+#[derive(Clone, Copy, Debug, PartialEq, Eq)]
+pub struct Range {
+    pub least: u16,
+    pub largest: u16,
 }
 
 // A sector over all lines: how many accepted it, how many refused it with 5 and with 6; how many of its filler bits are set.
-#[derive(Clone, Copy)]
+#[derive(Clone, Copy, Debug, PartialEq, Eq, Default)]
 pub struct Tally {
     pub accepted: u64,
     pub remainder: u64,
@@ -36,78 +36,32 @@ pub struct Tally {
     pub filler: u64,
 }
 
-// The ten-bit pixels of IR1, IR2, IR3 or IR4, of all lines in which they were accepted.
-#[derive(Clone, Copy)]
+// The ten-bit pixels of IR1, IR2, IR3 or IR4, of all lines in which they were accepted: no range where there are none.
+#[derive(Clone, Copy, Debug, PartialEq, Eq, Default)]
 pub struct Channel {
     pub count: u64,
     pub sum: u64,
-    pub range: Range,
+    pub range: Option<Range>,
 }
 
 // The report: sector n at n - 1, channel n at n - 1.
-#[derive(Clone, Copy)]
+#[derive(Clone, Copy, Debug, PartialEq, Eq, Default)]
 pub struct Report {
     pub lines: u64,
     pub sectors: [Tally; 12],
     pub channels: [Channel; 4],
 }
 
-// Inner. The lesser of two pixels.
-pub fn lesser(a: u16, b: u16) -> u16
-    ensures { result ≡ min a b }
-{
-    if a <= b { a } else { b }
-}
-
-// Inner. The greater of two.
-pub fn greater(a: u16, b: u16) -> u16
-    ensures { result ≡ max a b }
-{
-    if a <= b { b } else { a }
-}
-
 // Inner. Two ranges as one.
-fn widened(a: Range, b: Range) -> Range
+fn widened(a: Option<Range>, b: Option<Range>) -> Option<Range>
     ensures { result ≡ wider a b }
 {
-    match a {
-        Range::Absent => b,
-        Range::From { least, largest } => match b {
-            Range::Absent => Range::From {
-                least: least,
-                largest: largest,
-            },
-            Range::From {
-                least: m,
-                largest: g,
-            } => Range::From {
-                least: lesser(least, m),
-                largest: greater(largest, g),
-            },
-        },
-    }
-}
-
-// Inner. A sector in no lines.
-pub fn no_tally() -> Tally
-    ensures { result ≡ no_tally }
-{
-    Tally {
-        accepted: 0,
-        remainder: 0,
-        id: 0,
-        filler: 0,
-    }
-}
-
-// Inner. A channel without pixels.
-pub fn no_pixels() -> Channel
-    ensures { result ≡ no_channel }
-{
-    Channel {
-        count: 0,
-        sum: 0,
-        range: Range::Absent,
+    match (a, b) {
+        (None, only) | (only, None) => only,
+        (Some(a), Some(b)) => Some(Range {
+            least: a.least.min(b.least),
+            largest: a.largest.max(b.largest),
+        }),
     }
 }
 
@@ -129,40 +83,31 @@ pub fn add_channel(a: Channel, b: Channel) -> Channel
     requires { (a.count + b.count < 2 ^ 64) × (a.sum + b.sum < 2 ^ 64) }
     ensures { result ≡ add_channel a b }
 {
-    let x = a.range;
-    let y = b.range;
     Channel {
         count: a.count + b.count,
         sum: a.sum + b.sum,
-        range: widened(x, y),
+        range: widened(a.range, b.range),
     }
 }
 
 // Inner. Whether a tally is one that so many lines allow. Its counts are taken off the lines one by one: their sum, where they
 // are made up, may not fit 64 bits.
+#[tactic(auto, unfolding(crate::specs::Possible::sound_tally))]
 pub fn sound_tally(t: Tally, lines: u64) -> bool
     requires { lines ≤ most_lines }
     ensures { result ≡ sound_tally lines t }
 {
-    if t.accepted > lines {
-        return false;
-    }
-    if t.remainder > lines - t.accepted {
-        return false;
-    }
-    if t.id != lines - t.accepted - t.remainder {
-        return false;
-    }
-    t.filler <= LINE_FILLER * lines
+    t.accepted <= lines
+        && t.remainder <= lines - t.accepted
+        && t.id == lines - t.accepted - t.remainder
+        && t.filler <= LINE_FILLER * lines
 }
 
 // Inner. Whether a channel is.
+#[tactic(auto, unfolding(crate::specs::Possible::sound_channel))]
 pub fn sound_channel(c: Channel, lines: u64) -> bool
     requires { lines ≤ most_lines }
     ensures { result ≡ sound_channel lines c }
 {
-    if c.count > LINE_PIXELS * lines {
-        return false;
-    }
-    c.sum <= LINE_SUM * lines
+    c.count <= LINE_PIXELS * lines && c.sum <= LINE_SUM * lines
 }

@@ -10,30 +10,25 @@
 ghost use Rattle.std.specs.Prelude.{◌≡◌, true, [], ◌∷◌, ℕ, suc, ◌≤◌, length};
 ghost use Rattle.formats.specs.Formats.{line_bytes};
 ghost use Rattle.bits.specs.Bits.{bits_of};
+ghost use Rattle.refusals.specs.Refusals.{answer_number};
 ghost use Rattle.report_record.specs.Sums.{row_of};
 ghost use Rattle.report_record.specs.Report.{tally_at, channel_at, add_tally, add_channel, added, tally_of, report_by};
 ghost use Rattle.report_record.specs.Possible.{most_lines, sectors_sound, channels_sound, possible_report, record_refusal};
 
+use refusals::Refusal;
 use report_line::{pair_channel, wide_channel};
 use report_record::{
-    Channel, MOST_LINES, Report, Tally, add_channel, add_tally, no_pixels, no_tally, sound_channel,
-    sound_tally,
+    Channel, MOST_LINES, Report, Tally, add_channel, add_tally, sound_channel, sound_tally,
 };
 use sector_tally::line_tally;
+use std::array;
 
 // Inner. Whether all tallies are.
 fn sectors_sound(a: Report) -> bool
     requires { a.lines ≤ most_lines }
     ensures { result ≡ sectors_sound a }
 {
-    let mut i: usize = 0;
-    while i < 12 {
-        if !sound_tally(a.sectors[i], a.lines) {
-            return false;
-        }
-        i += 1;
-    }
-    true
+    a.sectors.iter().all(|t| sound_tally(*t, a.lines))
 }
 
 // Inner. Whether all channels are.
@@ -41,73 +36,57 @@ fn channels_sound(a: Report) -> bool
     requires { a.lines ≤ most_lines }
     ensures { result ≡ channels_sound a }
 {
-    let mut i: usize = 0;
-    while i < 4 {
-        if !sound_channel(a.channels[i], a.lines) {
-            return false;
-        }
-        i += 1;
-    }
-    true
+    a.channels.iter().all(|c| sound_channel(*c, a.lines))
 }
 
-// Inner. 12 where the record is impossible; else 0.
-pub fn record_refusal(a: Report) -> u8
-    ensures { result ≡ record_refusal a }
+// Inner. Refuses, with 12, where the record is impossible.
+#[tactic(auto, unfolding(report_record::specs::Possible::record_refusal, report_record::specs::Possible::possible_report, refusals::specs::Refusals::when))]
+pub fn record_refusal(a: Report) -> Result<(), Refusal>
+    ensures { answer_number result ≡ record_refusal a }
 {
-    if a.lines > MOST_LINES {
-        return refusals::STATE;
+    if a.lines <= MOST_LINES && sectors_sound(a) && channels_sound(a) {
+        Ok(())
+    } else {
+        Err(Refusal::State)
     }
-    if !sectors_sound(a) {
-        return refusals::STATE;
-    }
-    if !channels_sound(a) {
-        return refusals::STATE;
-    }
-    0
 }
 
 // Inner. The tallies of two possible reports, added.
+#[tactic(auto, using(crate::proofs::Parts::tallies_room))]
 fn add_sectors(a: Report, b: Report) -> [Tally; 12]
     requires { (possible_report a ≡ true) × (possible_report b ≡ true) }
     ensures { result ≡ row_of (λ (i : ℕ). add_tally (tally_at a i) (tally_at b i)) 12 }
 {
-    let none = no_tally();
-    let mut out = [none; 12];
-    let mut i: usize = 0;
-    while i < 12 {
+    let mut out = a.sectors;
+    for i in 0..12 {
         out[i] = add_tally(a.sectors[i], b.sectors[i]);
-        i += 1;
     }
     out
 }
 
 // Inner. The channels of two possible reports, added.
+#[tactic(auto, using(crate::proofs::Parts::channels_room))]
 fn add_channels(a: Report, b: Report) -> [Channel; 4]
     requires { (possible_report a ≡ true) × (possible_report b ≡ true) }
     ensures { result ≡ row_of (λ (i : ℕ). add_channel (channel_at a i) (channel_at b i)) 4 }
 {
-    let none = no_pixels();
-    let mut out = [none; 4];
-    let mut i: usize = 0;
-    while i < 4 {
+    let mut out = a.channels;
+    for i in 0..4 {
         out[i] = add_channel(a.channels[i], b.channels[i]);
-        i += 1;
     }
     out
 }
 
 // Inner. Two possible reports added.
+#[tactic(auto, using(crate::proofs::Parts::lines_room), unfolding(report_record::specs::Report::added))]
 pub fn add(a: Report, b: Report) -> Report
     requires { (possible_report a ≡ true) × (possible_report b ≡ true) }
     ensures { result ≡ added a b }
 {
-    let sectors = add_sectors(a, b);
-    let channels = add_channels(a, b);
     Report {
         lines: a.lines + b.lines,
-        sectors: sectors,
-        channels: channels,
+        sectors: add_sectors(a, b),
+        channels: add_channels(a, b),
     }
 }
 
@@ -116,16 +95,7 @@ fn line_sectors(start: u16, line: &[u8]) -> [Tally; 12]
     requires { line_bytes ≤ length line.now }
     ensures { result ≡ row_of (λ (i : ℕ). tally_of start (suc i) (bits_of line.now ∷ [])) 12 }
 {
-    let none = no_tally();
-    let mut out = [none; 12];
-    let mut i: usize = 0;
-    let mut n: u8 = 1;
-    while i < 12 {
-        out[i] = line_tally(start, n, line);
-        n += 1;
-        i += 1;
-    }
-    out
+    array::from_fn(|i| line_tally(start, i as u8 + 1, line))
 }
 
 // Inner. The report of one line.
@@ -134,14 +104,14 @@ pub fn line_report(start: u16, line: &[u8]) -> Report
     ensures { result ≡ report_by start (bits_of line.now ∷ []) }
 {
     let sectors = line_sectors(start, line);
-    let one = pair_channel(sectors[1], sectors[8], 1, line);
-    let two = pair_channel(sectors[2], sectors[9], 2, line);
-    let three = pair_channel(sectors[3], sectors[10], 3, line);
-    let four = wide_channel(sectors[11], line);
-    let channels = [one, two, three, four];
     Report {
         lines: 1,
-        sectors: sectors,
-        channels: channels,
+        sectors,
+        channels: [
+            pair_channel(sectors[1], sectors[8], 1, line),
+            pair_channel(sectors[2], sectors[9], 2, line),
+            pair_channel(sectors[3], sectors[10], 3, line),
+            wide_channel(sectors[11], line),
+        ],
     }
 }

@@ -1,17 +1,14 @@
--- A line with its numbers: what a foreign one is, what is remembered, and the ways of the code: no segment is stored yet, the number
--- is the assembly's own, or it is foreign. Assumes nothing.
+-- A line with its numbers: what a foreign one is, and what is remembered. Assumes nothing.
 use mathlib.Core.Bool.{Bool, true, false, true≢false, not, ◌&&◌, and-false}
 use mathlib.Core.Logic.{◌↔◌}
 use mathlib.Core.Path.{◌≡◌, refl, sym, ap, ◌∙◌}
 use Prim.Native.Nat.{ℕ}
 use lib.Dec.{eqb}
 use borrow.Author.Tests.{eq-eqb, ne_eqb, eqb-true, not-false}
-use Rattle.refusals.specs.Refusals.{when}
-use Rattle.refusals.proofs.Words.{when_true}
 use Rattle.blocks.specs.declared.assembly.Revisions.{Revisions}
 use Rattle.blocks.specs.declared.assembly.Assembly.{Assembly}
 use Rattle.blocks.specs.Record.{started, revision_of}
-use Rattle.revisions.specs.Carried.{foreign, foreign_refusal, remembered}
+use Rattle.revisions.specs.Carried.{foreign, remembered}
 
 -- a foreign revision in plain words
 pub foreign_when : (n : ℕ) (a : Assembly) (c : Revisions) → (foreign n a c ≡ true) ↔ ((a.marks.segments ≡ 0 → ⊥) × (revision_of n a.revisions ≡ revision_of n c → ⊥))
@@ -44,25 +41,3 @@ remembered_own n a c = by (started a) refl
     by : (t : Bool) → started a ≡ t → (t && not (eqb (revision_of n a.revisions) (revision_of n c))) ≡ false → revision_of n (remembered a c) ≡ revision_of n c
     by true h e = ap (revision_of n) (remembered_kept a c h) ∙ eqb-true (revision_of n a.revisions) (revision_of n c) (not-false (eqb (revision_of n a.revisions) (revision_of n c)) e)
     by false h e = ap (revision_of n) (remembered_new a c h)
-
-module _ (a : Assembly) (carried : Revisions) where
-  module _ (n : ℕ) where
-    pub none_stored : a.marks.segments ≡ 0 → 0 ≡ foreign_refusal n a carried
-    unfolding foreign_refusal foreign started when
-    none_stored e = rw (eq-eqb a.marks.segments 0 e)
-
-    pub of_its_own : (own other : ℕ) → own ≡ revision_of n a.revisions → other ≡ revision_of n carried → (a.marks.segments ≡ 0 → ⊥) → own ≡ other → 0 ≡ foreign_refusal n a carried
-    unfolding foreign_refusal foreign started when
-    of_its_own own other p q some e = rw (ne_eqb a.marks.segments 0 some, eq-eqb (revision_of n a.revisions) (revision_of n carried) (sym p ∙ e ∙ q)) refl
-
-    pub of_another : (own other : ℕ) → own ≡ revision_of n a.revisions → other ≡ revision_of n carried → (a.marks.segments ≡ 0 → ⊥) → (own ≡ other → ⊥) → 14 ≡ foreign_refusal n a carried
-    unfolding foreign_refusal
-    of_another own other p q some ne = sym (when_true (foreign n a carried) 14 ((foreign_when n a carried).1 (some, λ e. ne (p ∙ e ∙ sym q))))
-
-  pub first_remembered : a.marks.segments ≡ 0 → carried ≡ remembered a carried
-  unfolding started
-  first_remembered e = sym (remembered_new a carried (ap not (eq-eqb a.marks.segments 0 e)))
-
-  pub still_remembered : (a.marks.segments ≡ 0 → ⊥) → a.revisions ≡ remembered a carried
-  unfolding started
-  still_remembered some = sym (remembered_kept a carried (ap not (ne_eqb a.marks.segments 0 some)))

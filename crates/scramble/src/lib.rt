@@ -11,31 +11,27 @@ ghost use Rattle.scramble.specs.Register.{new_bit, next_register};
 ghost use Rattle.scramble.specs.Step.{StepOk, register_left};
 ghost use Rattle.scramble.specs.Wire.{plain_bit};
 
+use refusals::Refusal;
+
 // The last fifteen scrambling bits, the newest lowest.
-#[derive(Clone, Copy)]
+#[derive(Clone, Copy, Debug, PartialEq, Eq)]
 pub struct Register {
     pub bits: u16,
 }
 
 // The register after a bit, and the bit.
-#[derive(Clone, Copy)]
+#[derive(Clone, Copy, Debug, PartialEq, Eq)]
 pub struct Shifted {
     pub next: Register,
     pub bit: u8,
 }
 
-// The answer of a step: the bit that it gave.
-#[derive(Clone, Copy)]
-pub enum StepBit {
-    Refused(u8),
-    Bit(u8),
-}
-
-// The register after a step by value, and the step's answer.
-#[derive(Clone, Copy)]
+// The register after a step by value, and the step's answer: the bit that it gave. The register stands beside the answer, since a
+// refused one comes back too (`stepped` in `demands/specs/Refusals`; edit `refused_register_moves`).
+#[derive(Clone, Copy, Debug, PartialEq, Eq)]
 pub struct StepTaken {
     pub next: Register,
-    pub answer: StepBit,
+    pub answer: Result<u8, Refusal>,
 }
 
 // Fifteen ones: where SYNC ends, and where the first information bit begins.
@@ -58,33 +54,31 @@ pub fn shift(r: Register) -> Shifted
         next: Register {
             bits: ((b << 1) | bit as u16) & 0x7fff,
         },
-        bit: bit,
+        bit,
     }
 }
 
 // The step by value. Refused with 12 for a register over fifteen bits, which comes back as it was.
+#[tactic(auto, unfolding(crate::specs::Step::step_refusal, crate::specs::Step::register_left, refusals::specs::Refusals::when, refusals::specs::Refusals::kept))]
 pub fn stepped(r: Register) -> StepTaken
     ensures { StepOk r.bits result.answer × (result.next.bits ≡ register_left r.bits) }
 {
     if r.bits > FIFTEEN_ONES {
-        let refused = StepBit::Refused(refusals::STATE);
         return StepTaken {
             next: r,
-            answer: refused,
+            answer: Err(Refusal::State),
         };
     }
-    let s = shift(r);
-    let next = s.next;
-    let answer = StepBit::Bit(s.bit);
+    let Shifted { next, bit } = shift(r);
     StepTaken {
-        next: next,
-        answer: answer,
+        next,
+        answer: Ok(bit),
     }
 }
 
 // The step of a register that the caller lends: it changes in place, and its new bit comes back. Refused with 12 for a
 // register over fifteen bits, which stays as it was.
-pub fn step(r: &mut Register) -> StepBit
+pub fn step(r: &mut Register) -> Result<u8, Refusal>
     ensures { StepOk r.old.bits result × (r.new.bits ≡ register_left r.old.bits) }
 {
     let s = stepped(*r);
@@ -101,9 +95,8 @@ pub fn mix_bit(place: usize, r: Register, bit: u8) -> Shifted
 {
     let t = shift(r);
     let group = ((place >> 3) & 1) as u8;
-    let next = t.next;
     Shifted {
-        next: next,
+        next: t.next,
         bit: (bit ^ t.bit) ^ group,
     }
 }

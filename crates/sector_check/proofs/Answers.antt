@@ -6,7 +6,6 @@ use Prim.Native.Nat.{ℕ}
 use borrow.Author.Tests.{eq-eqb, ne_eqb, eqb-true, eqb-false}
 use lib.Dec.{eqb}
 use Rattle.refusals.specs.Refusals.{first, when}
-use Rattle.bits.specs.Bits.{bits_of, part, number_of}
 use Rattle.crc_step.specs.Remainder.{remainder_of}
 use Rattle.sector_table.specs.declared.layout.Layout.{Layout}
 use Rattle.sector_check.specs.Sector.{covered_of, id_of, answer_of}
@@ -31,8 +30,3 @@ module _ (start : ℕ) (l : Layout) (b : List ℕ) where
       go : (t : Bool) → eqb (remainder_of start (covered_of l b)) 0 ≡ t → remainder_of start (covered_of l b) ≡ 0
       go true e = eqb-true _ _ e
       go false e = absurd (ne (sym (answer_five (eqb-false _ _ e))))
-
--- as the code reads it
-pub id_part : (l : Layout) (s : List ℕ) → number_of (part s l.start l.id_bits) ≡ id_of l (bits_of s)
-unfolding part id_of
-id_part l s = refl

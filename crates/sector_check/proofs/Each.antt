@@ -1,16 +1,20 @@
 -- The answers of all twelve sectors as a list, and the loop that finds them. Assumes nothing.
-use mathlib.Core.Path.{◌≡◌, sym, ap, ap₂, ◌∙◌}
+use mathlib.Core.Path.{◌≡◌, refl, sym, ap, ap₂, ◌∙◌}
 use mathlib.Core.List.{List, [], ◌∷◌, ◌++◌, map}
 use Prim.Native.Nat.{ℕ, suc, ◌+◌, ◌-◌, ◌<◌}
 use native.Mathlib.Numerals.{add-one}
 use native.Mathlib.Omega.{arith}
-use lib.ListN.{length, get_or, take, drop, set, length-map}
-use lib.ListN.{get_or-map}
+use lib.ListN.{length, get_or, take, drop, set, length-map, get_or-map}
 use lib.Seq.{take-suc, take-suc-set, take_all, split_at, get_or_at, length-take-le}
+use Rattle.std.specs.Prelude.{Result, Ok, Err}
+use Rattle.std.proofs.lemmas.List.{map-set}
+use Rattle.refusals.specs.declared.Refusal.{Refusal}
+use Rattle.refusals.specs.Refusals.{answer_number}
+use Rattle.refusals.proofs.Numbers.{number_one}
 use Rattle.sector_table.specs.declared.layout.Layout.{Layout}
 use Rattle.sector_table.specs.Layout.{sectors, none, layout_of}
 use Rattle.sector_table.proofs.Table.{twelve}
-use Rattle.sector_check.specs.Sector.{answer_of, answers_of}
+use Rattle.sector_check.specs.Sector.{answer_of, answers_of, in_numbers}
 
 -- ---- the list
 
@@ -32,9 +36,44 @@ answers_at start b i h =
 
 -- ---- the loop: the first i of them stand there
 
-pub turn : (t xs : List ℕ) (i v : ℕ) → take i xs ≡ take i t → v ≡ get_or t i 0 → i < length xs → i < length t → take (i + 1) (set xs i v) ≡ take (i + 1) t
-turn t xs i v e h p q =
-    rw add-one (take-suc-set xs i v p ∙ ap₂ (λ (l : List ℕ) (x : ℕ). l ++ (x ∷ [])) e h ∙ sym (take-suc t i 0 q))
+pub answers_turn : (start : ℕ) (b : List ℕ) (out : List (Result (Unit {0}) Refusal)) (i : ℕ) (l : Layout) (r : Result (Unit {0}) Refusal)
+    → take i (map answer_number out) ≡ take i (answers_of start b) → l ≡ layout_of (i + 1) → answer_number r ≡ answer_of start l b → i < 12 → length out ≡ 12
+    → take (i + 1) (map answer_number (set out i r)) ≡ take (i + 1) (answers_of start b)
+answers_turn start b out i l r e row told h n =
+    let t : List ℕ = answers_of start b in
+    let v : answer_number r ≡ get_or t i 0 = told ∙ ap (λ (l : Layout). answer_of start l b) row ∙ sym (answers_at start b i h) in
+    let p : i < length (map answer_number out) = omega (arith, length-map out (answer_number {A = Unit {0}})) in
+    let q : i < length t = omega (arith, length_answers start b) in
+    rw (map-set, add-one)
+    (take-suc-set (map answer_number out) i (answer_number r) p
+    ∙ ap₂ (λ (l : List ℕ) (x : ℕ). l ++ (x ∷ [])) e v
+    ∙ sym (take-suc t i 0 q))
 
-pub all : (t xs : List ℕ) (i n : ℕ) → take i xs ≡ take i t → i ≡ n → length xs ≡ n → length t ≡ n → xs ≡ t
-all t xs i n e h p q = sym (take_all i xs (omega arith)) ∙ e ∙ take_all i t (omega arith)
+pub answers_all : (start : ℕ) (b : List ℕ) (out : List (Result (Unit {0}) Refusal)) (i : ℕ) → take i (map answer_number out) ≡ take i (answers_of start b) → i ≡ 12 → length out ≡ 12
+    → map answer_number out ≡ answers_of start b
+answers_all start b out i e end n =
+    let xs : List ℕ = map answer_number out in
+    let t : List ℕ = answers_of start b in
+    sym (take_all i xs (omega (arith, length-map out (answer_number {A = Unit {0}})))) ∙ e ∙ take_all i t (omega (arith, length_answers start b))
+
+-- ---- the numbers of several answers tell them
+
+each_one : (xs ys : List (Result (Unit {0}) Refusal)) → map answer_number xs ≡ map answer_number ys → xs ≡ ys
+each_one [] [] e = refl
+each_one [] (y ∷ ys) e = absurd cc
+each_one (x ∷ xs) [] e = absurd cc
+each_one (x ∷ xs) (y ∷ ys) e =
+    let head : answer_number x ≡ answer_number y = cc in
+    let tail : map answer_number xs ≡ map answer_number ys = cc in
+    ap₂ ◌∷◌ (number_one x y head) (each_one xs ys tail)
+
+-- and the call's own number stays
+pub number_stays : (r : Result (List (Result (Unit {0}) Refusal)) Refusal) → answer_number (in_numbers r) ≡ answer_number r
+number_stays (Ok xs) = refl
+number_stays (Err e) = refl
+
+pub in_numbers_one : (r s : Result (List (Result (Unit {0}) Refusal)) Refusal) → in_numbers r ≡ in_numbers s → r ≡ s
+in_numbers_one (Ok xs) (Ok ys) e = ap Ok (each_one xs ys cc)
+in_numbers_one (Ok xs) (Err d) e = absurd cc
+in_numbers_one (Err d) (Ok xs) e = absurd cc
+in_numbers_one (Err d) (Err e) h = cc

@@ -1,7 +1,8 @@
 -- What a sector of a line says. A line is its bits, `b`, of which there are at least 354,848; a sector is a row of the
 -- table, `l`; the check begins from a start value. Assumes nothing.
-use Rattle.std.specs.Prelude.{ℕ, ◌+◌, ◌*◌, not, List, [], ◌∷◌, ◌++◌, map, eqb, replicate}
-use Rattle.refusals.specs.Refusals.{first, when}
+use Rattle.std.specs.Prelude.{ℕ, ◌+◌, ◌*◌, not, List, [], ◌∷◌, ◌++◌, map, eqb, replicate, Result, Ok, Err}
+use Rattle.refusals.specs.declared.Refusal.{Refusal}
+use Rattle.refusals.specs.Refusals.{first, when, answer_number}
 use Rattle.bits.specs.Bits.{stretch, number_of, set_bits, fields_of}
 use Rattle.crc_step.specs.Remainder.{remainder_of}
 use Rattle.sector_table.specs.declared.layout.Layout.{Layout}
@@ -24,6 +25,11 @@ answer_of start l b = first (when (not (eqb (remainder_of start (covered_of l b)
 -- the answer of each sector of the table, from 1 to 12
 unfoldable pub answers_of : ℕ → List ℕ → List ℕ
 answers_of start b = map (λ (l : Layout). answer_of start l b) sectors
+
+-- answers of several sectors, as the paper's numbers
+abbrev pub in_numbers : Result (List (Result (Unit {0}) Refusal)) Refusal → Result (List ℕ) Refusal
+in_numbers (Ok answers) = Ok (map answer_number answers)
+in_numbers (Err e) = Err e
 
 -- how many of the 2,048 filler bits are set
 unfoldable pub filler_of : Layout → List ℕ → ℕ

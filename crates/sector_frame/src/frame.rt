@@ -13,8 +13,7 @@ fn put_filler(line: &mut [u8], at: usize)
     requires { (at + filler_bits ≤ 8 * length line.old) × (at + filler_bits < 2 ^ 64) }
     ensures { bits_of line.new ≡ take at (bits_of line.old) ++ replicate filler_bits 0 ++ drop (at + filler_bits) (bits_of line.old) }
 {
-    let zeros = [0u16; 128];
-    slice_writer::pack(&zeros, 128, 16, line, at);
+    slice_writer::pack(&[0u16; 128], 16, line, at);
 }
 
 // Inner. ID, check word and zero filler of a sector whose data bits stand in the line.

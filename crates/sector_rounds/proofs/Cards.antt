@@ -1,13 +1,16 @@
 -- NO SECTOR IS ACCEPTED FROM TWO START VALUES: what is not refused with 5 from the one is refused with 5 from the other. So a line of
 -- one card, read in a format of the other, shows twelve 5s. Assumes nothing.
-use mathlib.Core.List.{List}
+use mathlib.Core.List.{List, []}
 use mathlib.Core.Path.{◌≡◌, sym, ap, ◌∙◌}
 use Prim.Native.Nat.{ℕ, ◌+◌, ◌-◌, ◌%◌, ◌^◌, ◌≤◌, ◌<◌}
 use native.Mathlib.Nat.{mod-eq_of_lt}
 use native.Mathlib.Omega.{arith}
 use lib.ListN.{length, get_or, replicate, length-replicate, get_or-replicate}
 use lib.Seq.{ext_get_or}
-use Rattle.refusals.proofs.Words.{first_none, none_first, none_second, kept_none}
+use Rattle.std.specs.Prelude.{Result, Ok}
+use Rattle.refusals.specs.declared.Refusal.{Refusal}
+use Rattle.refusals.specs.Refusals.{answer_value}
+use Rattle.refusals.proofs.Words.{first_none, none_first, none_second}
 use Rattle.formats.specs.Formats.{line_bytes, format_refusal, check_start}
 use Rattle.formats.proofs.Which.{start_lt}
 use Rattle.bits.specs.Bits.{bits_of, stretch, Below}
@@ -23,7 +26,7 @@ use Rattle.sectors.specs.Calls.{accepted_answer, answers_refusal, answers_answer
 use Rattle.sector_table.proofs.Admitted.{Admitted, admitted, admits}
 use Rattle.sector_check.proofs.Answers.{answer_five, answer_past}
 use Rattle.sector_check.proofs.Each.{length_answers}
-use Rattle.sectors.proofs.AtOnce.{refused_alike, at_once}
+use Rattle.sectors.proofs.AtOnce.{refused_alike, answers_given, at_once}
 use Rattle.sector_table.proofs.Table.{sound}
 
 -- ---- a sector
@@ -67,21 +70,22 @@ module _ (f g : ℕ) (known : format_refusal g ≡ 0) (differ : check_start f �
   never_both n line e h = let z : ◌≡◌ {A = ℕ} 0 5 = sym h ∙ other_card n line e in let w : ⊥ = omega arith in w
 
   -- TWELVE FIVES: a line of which all sectors are accepted in the one format
-  pub twelve_fives : (line : List ℕ) → ((n : ℕ) → 1 ≤ n → n ≤ 12 → accepted_answer f line n ≡ 0) → answers_answer g line ≡ record { refused = 0; answers = replicate 12 5 }
-  unfolding answers_answer accepted_answer
+  pub twelve_fives : (line : List ℕ) → ((n : ℕ) → 1 ≤ n → n ≤ 12 → accepted_answer f line n ≡ 0) → answers_answer g line ≡ Ok (replicate 12 5)
+  unfolding accepted_answer
   twelve_fives line all =
-      let b : List ℕ = bits_of line in
+      let xs : List ℕ = answers_of (check_start g) (bits_of line) in
       let a : Admitted 1 12 1 (length line) = admitted f 1 12 1 (length line) (none_first (line_refusal f 1 12 1 (length line)) _ (all 1 (omega arith) (omega arith))) in
       let served : answers_refusal g (length line) ≡ 0 = refused_alike g 1 (length line) (omega arith) (omega arith) ∙ admits g 1 12 1 (length line) known (omega arith) (omega arith) a.long in
-      let given : (answers_answer g line).answers ≡ answers_of (check_start g) b = kept_none (answers_refusal g (length line)) (replicate 12 0) (answers_of (check_start g) b) served in
-      let many : length (answers_answer g line).answers ≡ 12 = ap length given ∙ length_answers (check_start g) b in
-      let fives : (answers_answer g line).answers ≡ replicate 12 5 = ext_get_or 0 (answers_answer g line).answers (replicate 12 5) (many ∙ sym (length-replicate {A = ℕ} 12 5))
-      (λ i h. let below : i < 12 = omega (arith, many) in each line all served i below ∙ sym (get_or-replicate 12 i 5 0 below)) in
-      λ i. record { refused = served i; answers = fives i }
+      let given : answers_answer g line ≡ Ok xs = answers_given g line served in
+      let many : length xs ≡ 12 = length_answers (check_start g) (bits_of line) in
+      given
+      ∙ ap Ok
+      (ext_get_or 0 xs (replicate 12 5) (many ∙ sym (length-replicate {A = ℕ} 12 5))
+      (λ i h. let below : i < 12 = omega (arith, many) in ap (λ (r : Result (List ℕ) Refusal). get_or (answer_value [] r) i 0) (sym given) ∙ each line all served i below ∙ sym (get_or-replicate 12 i 5 0 below)))
     where
-      each : (line : List ℕ) → ((n : ℕ) → 1 ≤ n → n ≤ 12 → accepted_answer f line n ≡ 0) → answers_refusal g (length line) ≡ 0 → (i : ℕ) → i < 12 → get_or (answers_answer g line).answers i 0 ≡ 5
+      each : (line : List ℕ) → ((n : ℕ) → 1 ≤ n → n ≤ 12 → accepted_answer f line n ≡ 0) → answers_refusal g (length line) ≡ 0 → (i : ℕ) → i < 12 → get_or (answer_value [] (answers_answer g line)) i 0 ≡ 5
       each line all served i h =
           let place : i ≡ i + 1 - 1 = omega arith in
           let low : 1 ≤ i + 1 = omega arith in
           let high : i + 1 ≤ 12 = omega arith in
-          ap (λ (k : ℕ). get_or (answers_answer g line).answers k 0) place ∙ at_once g (i + 1) line low high served ∙ other_card (i + 1) line (all (i + 1) low high)
+          ap (λ (k : ℕ). get_or (answer_value [] (answers_answer g line)) k 0) place ∙ at_once g (i + 1) line low high served ∙ other_card (i + 1) line (all (i + 1) low high)

@@ -6,12 +6,12 @@ use Prim.Native.Nat.{ℕ, ◌≤◌}
 use lib.Dec.{ltb}
 use lib.ListN.{length, take, drop}
 use borrow.Author.Tests.{le-ltb}
-use Rattle.refusals.specs.Refusals.{first, when, short_of}
+use Rattle.std.specs.Prelude.{Ok}
+use Rattle.refusals.specs.Refusals.{first, when, short_of, refuses}
 use Rattle.refusals.proofs.Words.{first_none, kept_none, when_false}
 use Rattle.refusals.proofs.Given.{given_none}
 use Rattle.formats.specs.Formats.{line_bytes, check_start}
 use Rattle.bits.specs.Bits.{bits_of}
-use Rattle.sectors.specs.declared.check.Counted.TheVariants.{Set, Refused}
 use Rattle.sector_table.specs.Layout.{layout_of, bytes_of}
 use Rattle.sector_table.specs.Asked.{line_refusal}
 use Rattle.sector_check.specs.Sector.{answer_of, filler_of, data_of, pixels_of}
@@ -64,7 +64,7 @@ module _ (f n : ℕ) (buf : List ℕ) (full : line_bytes ≤ length buf) where
       let none : refusal ≡ 0 = admits f 1 12 n (length buf) c.known in_table.0 in_table.1 full in
       record {
         accepted = first_none refusal (answer_of (check_start f) (layout_of n) (bits_of buf)) none ∙ c.answer;
-        filler = sym (given_none Refused refusal refusal (Set (filler_of (layout_of n) (bits_of buf))) (Set 0) refl none (ap Set (sym c.filler)));
+        filler = sym (given_none refuses refusal refusal (Ok (filler_of (layout_of n) (bits_of buf))) (Ok 0) refl none (ap Ok (sym c.filler)));
         values = values_given w c;
       }
 

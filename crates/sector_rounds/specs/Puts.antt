@@ -1,7 +1,6 @@
 -- What is put into the sectors of a line, call by call, and what the calls that read say of it afterwards. Assumes nothing.
-use Rattle.std.specs.Prelude.{List, ◌++◌, ◌≡◌, ℕ, ◌≤◌, length, take, drop}
+use Rattle.std.specs.Prelude.{List, ◌++◌, ◌≡◌, ℕ, ◌≤◌, length, take, drop, Ok}
 use Rattle.bits.specs.Bits.{bits_of, Below}
-use Rattle.sectors.specs.declared.check.Counted.TheVariants.{Set}
 use Rattle.sector_table.specs.Layout.{layout_of, bytes_of}
 use Rattle.sectors.specs.Calls.{accepted_answer, filler_answer}
 use Rattle.pixel_refusals.specs.Refusing.{data_answer, pixels_answer}
@@ -57,5 +56,5 @@ ValuesBack f n (Wide ps) buf = PixelsBack 12 12 f n ps buf
 -- w COMES BACK from sector n of the line in a buffer: accepted, no filler bit set, the same data and pixels
 pub record ComesBack (f n : ℕ) (w : Put) (buf : List ℕ) : Type 0 where
   pub accepted : accepted_answer f buf n ≡ 0
-  pub filler : filler_answer f buf n ≡ Set 0
+  pub filler : filler_answer f buf n ≡ Ok 0
   pub values : ValuesBack f n w buf

@@ -50,6 +50,10 @@ sound n lo hi =
       some = ltb→lt 0 l.data_bits (at_row (λ l. ltb 0 l.data_bits) sectors tt i (index n lo hi));
     }
 
+-- the same of a row that the code has found
+pub sound_row : (l : Layout) (n : ℕ) → l ≡ layout_of n → 1 ≤ n → n ≤ 12 → Sound l
+sound_row l n e lo hi = subst Sound (sym e) (sound n lo hi)
+
 -- the pixels of sectors 1 to 11 fit a byte
 pub thin : (n : ℕ) → 1 ≤ n → n ≤ 11 → (layout_of n).width ≤ 8
 unfolding layout_of sectors every

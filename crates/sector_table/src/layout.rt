@@ -4,7 +4,7 @@ ghost use Rattle.sector_table.specs.Layout.{layout_of, bytes_of, Sound};
 
 // A sector of a line: where it starts and how many bits it has in all, its ID and the bits of it, the bits of its
 // data, and how many pixels of which width these are. The data of DOC are 2,291 bytes, and no pixels.
-#[derive(Clone, Copy)]
+#[derive(Clone, Copy, Debug, PartialEq, Eq)]
 pub struct Layout {
     pub start: usize,
     pub bits: usize,

@@ -11,6 +11,7 @@ use Rattle.crc_step.specs.Remainder.{remainder_of}
 use Rattle.sector_table.specs.declared.layout.Layout.{Layout}
 use Rattle.sector_table.specs.Layout.{layout_of}
 use Rattle.sector_check.specs.Sector.{covered_of, id_of, answer_of, filler_of}
+use Rattle.report_record.specs.declared.Tally.{Tally}
 use Rattle.report_record.specs.Sums.{total_of}
 use Rattle.report_record.specs.Report.{lines_answering, filler_in, tally_of}
 use Rattle.report_record.proofs.Adding.{tally_same}
@@ -23,29 +24,16 @@ three true u = inr (inl refl)
 three false true = inr (inr refl)
 three false false = inl refl
 
-pub answer_three : (start : ℕ) (l : Layout) (b : List ℕ) → let a = answer_of start l b in (a ≡ 0) ⊎ (a ≡ 5) ⊎ (a ≡ 6)
+pub answer_three : (start : ℕ) (l : Layout) (b : List ℕ) (a : ℕ) → a ≡ answer_of start l b → (a ≡ 0) ⊎ (a ≡ 5) ⊎ (a ≡ 6)
 unfolding answer_of
-answer_three start l b = three (not (eqb (remainder_of start (covered_of l b)) 0)) (not (eqb (id_of l b) l.id))
-
--- as the code tells them apart
-pub tally_0 : (a s : ℕ) → a ≡ 0 → record { accepted = 1; remainder = 0; id = 0; filler = s } ≡ one_tally a s
-unfolding when
-tally_0 a s e = ap (λ (k : ℕ). one_tally k s) (sym e)
-
-pub tally_5 : (a s : ℕ) → a ≡ 5 → record { accepted = 0; remainder = 1; id = 0; filler = s } ≡ one_tally a s
-unfolding when
-tally_5 a s e = ap (λ (k : ℕ). one_tally k s) (sym e)
-
-pub tally_6 : (a s : ℕ) → (a ≡ 0) ⊎ (a ≡ 5) ⊎ (a ≡ 6) → (a ≡ 0 → ⊥) → (a ≡ 5 → ⊥) → record { accepted = 0; remainder = 0; id = 1; filler = s } ≡ one_tally a s
-unfolding when
-tally_6 a s (inl e) no-0 no-5 = absurd (no-0 e)
-tally_6 a s (inr (inl e)) no-0 no-5 = absurd (no-5 e)
-tally_6 a s (inr (inr e)) no-0 no-5 = ap (λ (k : ℕ). one_tally k s) (sym e)
+answer_three start l b a e = rw e (three (not (eqb (remainder_of start (covered_of l b)) 0)) (not (eqb (id_of l b) l.id)))
 
 -- THE TALLY OF ONE LINE
-pub tally_one : (start n : ℕ) (b : List ℕ) (a s : ℕ) → a ≡ answer_of start (layout_of n) b → s ≡ filler_of (layout_of n) b → one_tally a s ≡ tally_of start n (b ∷ [])
+pub tally_one : (start n : ℕ) (b : List ℕ) (t : Tally) (l : Layout) (a s : ℕ) → t ≡ one_tally a s → l ≡ layout_of n → a ≡ answer_of start l b → s ≡ filler_of l b
+    → t ≡ tally_of start n (b ∷ [])
 unfolding tally_of lines_answering filler_in total_of
-tally_one start n b a s ea es = tally_same (is 0) (is 5) (is 6) (es ∙ sym (add-zero (filler_of (layout_of n) b)))
+tally_one start n b t l a s et el ea es =
+    et ∙ tally_same (is 0) (is 5) (is 6) (es ∙ ap (λ (x : Layout). filler_of x b) el ∙ sym (add-zero (filler_of (layout_of n) b)))
   where
     is : (k : ℕ) → when (eqb a k) 1 ≡ when (eqb (answer_of start (layout_of n) b) k) 1 + 0
-    is k = ap (λ (m : ℕ). when (eqb m k) 1) ea ∙ sym (add-zero (when (eqb (answer_of start (layout_of n) b) k) 1))
+    is k = ap (λ (m : ℕ). when (eqb m k) 1) (ea ∙ ap (λ (x : Layout). answer_of start x b) el) ∙ sym (add-zero (when (eqb (answer_of start (layout_of n) b) k) 1))

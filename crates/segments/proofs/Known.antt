@@ -1,6 +1,6 @@
 -- What is known once a line's segment is added or found the same: which block, which segment, and that the bytes are
 -- there. Assumes nothing.
-use mathlib.Core.Path.{◌≡◌, refl, sym, ap, ap₂, subst, ◌∙◌}
+use mathlib.Core.Path.{◌≡◌, sym, ap, subst, ◌∙◌}
 use mathlib.Core.Bool.{Bool, true, false, not, ◌||◌}
 use mathlib.Core.List.{List}
 use Prim.Native.Nat.{ℕ, ◌≤◌}
@@ -8,27 +8,25 @@ use native.Mathlib.Omega.{arith}
 use lib.Dec.{eqb, ltb, leb}
 use lib.ListN.{length}
 use borrow.Author.Tests.{ltb-false, leb-true, not-false}
-use Rattle.refusals.specs.Refusals.{first, when, short_of, outside_of, answered, kept}
-use Rattle.refusals.proofs.Words.{first_none, none_first, none_second, none_when, kept_some, kept_none, enough, Inside, inside, or_false}
-use Rattle.refusals.proofs.Given.{given_some, given_none}
-use Rattle.refusals.proofs.Says.{Says}
+use Rattle.std.specs.Prelude.{Result, Ok}
+use Rattle.refusals.specs.declared.Refusal.{Refusal}
+use Rattle.refusals.specs.Refusals.{first, when, short_of, outside_of, kept, Answers}
+use Rattle.refusals.proofs.Words.{first_none, none_first, none_second, none_when, enough, Inside, inside, or_false}
+use Rattle.refusals.proofs.Numbers.{answers_given, answers_behind}
 use Rattle.formats.specs.Formats.{line_bytes, format_refusal}
 use Rattle.document.specs.Place.{doc_refusal}
 use Rattle.sector_table.specs.Place.{doc_byte}
 use Rattle.document.specs.declared.segments.SubCommutation.{SubCommutation}
-use Rattle.document.specs.Segments.{segment_refusal, sub_commutation_refusal, SubCommutationOk}
-use Rattle.document.proofs.Settled.{sub_kind}
-use Rattle.blocks.specs.declared.block.Block.{Block}
+use Rattle.document.specs.Segments.{segment_refusal, no_sub_commutation, sub_commutation_in, sub_commutation_refusal}
 use Rattle.blocks.specs.declared.marks.Marks.{Marks}
 use Rattle.blocks.specs.Blocks.{block_of, block_refusal}
-use Rattle.blocks.specs.Marking.{all_marks, marked, with_mark, marks_refusal}
-use Rattle.blocks.specs.declared.assembly.Revisions.{Revisions}
+use Rattle.blocks.specs.Marking.{all_marks, marks_refusal}
+use Rattle.blocks.proofs.Rows.{sound}
 use Rattle.blocks.specs.declared.assembly.Assembly.{Assembly}
-use Rattle.revisions.specs.Carried.{revisions_in, remembered}
-use Rattle.segments.specs.declared.Added.{Added}
-use Rattle.segments.specs.declared.Added.TheVariants as added
-use Rattle.segments.specs.Assembly.{marks_with, assembly_with, placed, placed_on, place_answer, block_with, place_left, segment_in, lent_refusal, carried_refusal, CarriedOk, add_segment_refusal, add_segment_answer, add_segment_left}
-use Rattle.copies.specs.Copies.{stored_of, place_refusal}
+use Rattle.revisions.specs.Carried.{revisions_in}
+use Rattle.copies.specs.Copies.{Placeable, place_refusal}
+use Rattle.segments.specs.declared.Placed.{Placed}
+use Rattle.segments.specs.Assembly.{placed_on, not_placed, block_with, place_left, segment_in, lent_refusal, carried_refusal, CarriedOk, add_segment_refusal, AddSegmentOk, add_segment_left}
 
 -- WHAT IS KNOWN of a line that carries a segment
 pub record Carries (m : Marks) (line : List ℕ) (n given : ℕ) : Type 0 where
@@ -68,50 +66,31 @@ carries f m line n given e =
       segment = sub_small f line (none_second (lent_refusal f m n (length line) given) (sub_commutation_refusal f line) e);
     }
 
--- nothing that is lent with the line refuses it: then what its bytes say is what it carries
-pub carried_told : (f : ℕ) (m : Marks) (line : List ℕ) (n given lent : ℕ) (r : SubCommutation) → lent ≡ lent_refusal f m n (length line) given → lent ≡ 0
-    → SubCommutationOk f line r → CarriedOk f m line n given r
-unfolding carried_refusal
-carried_told f m line n given lent r e z s =
-    let none : first (lent_refusal f m n (length line) given) (sub_commutation_refusal f line) ≡ sub_commutation_refusal f line = first_none _ _ (sym e ∙ z) in
-    subst (λ (k : ℕ). Says sub_kind k (segment_in line, doc_byte line 196) r) (sym none) s
+-- a line that carries a segment, as the code knows it: the segment can be placed
+module _ (f : ℕ) (a : Assembly) (line : List ℕ) (n : ℕ) (block : List ℕ) (y : SubCommutation) where
+  abbrev pub Told : Type 0
+  Told = CarriedOk f a.marks line n (length block) (Ok y)
 
--- ---- the call, once the line carries a segment: the answer and the block are those of the segment in its place
+  names : Told → y.segment ≡ segment_in line
+  names h = ap (λ (s : SubCommutation). s.segment) (answers_given (carried_refusal f a.marks line n (length block)) no_sub_commutation (sub_commutation_in line) y h.0 h.1)
 
-module _ (f : ℕ) (a : Assembly) (line : List ℕ) (n : ℕ) (block : List ℕ) where
-  pub added_is : carried_refusal f a.marks line n (length block) ≡ 0
-      → (add_segment_answer f a line n block ≡ place_answer n a line (segment_in line) block) × (add_segment_left f a line n block ≡ place_left n a line (segment_in line) block)
-  unfolding add_segment_answer add_segment_left add_segment_refusal place_answer place_left
-  added_is e =
-      let s : ℕ = segment_in line in
-      let rest : ℕ = place_refusal n a (revisions_in line) line s block in
-      let none : first (carried_refusal f a.marks line n (length block)) rest ≡ rest = first_none _ _ e in (
-        ap (λ (k : ℕ). answered added.Refused k (placed_on a line s)) none,
-        ap (λ (k : ℕ). kept k block (block_with (block_of n) a.marks line s block)) none,
+  pub placeable : Told → Placeable (block_of n) line y.segment block
+  placeable h =
+      let k = carries f a.marks line n (length block) (sym h.0) in
+      record { row = sound n k.low k.high; small = subst (λ (s : ℕ). s ≤ 24) (sym (names h)) k.segment; long = k.long; room = k.room }
+
+  -- and what becomes of it there is the call's own answer, and the block that it leaves
+  pub added : (r : Result Placed Refusal) (left : List ℕ) → Told
+      → Answers (place_refusal n a (revisions_in line) line y.segment block) (not_placed a) (placed_on a line y.segment) r × (left ≡ place_left n a line y.segment block)
+      → AddSegmentOk f a line n block r × (left ≡ add_segment_left f a line n block)
+  unfolding add_segment_refusal add_segment_left place_left
+  added r left h = subst (λ (s : ℕ). At s → AddSegmentOk f a line n block r × (left ≡ add_segment_left f a line n block)) (sym (names h)) here
+    where
+      At : ℕ → Type 0
+      At s = Answers (place_refusal n a (revisions_in line) line s block) (not_placed a) (placed_on a line s) r × (left ≡ place_left n a line s block)
+
+      here : At (segment_in line) → AddSegmentOk f a line n block r × (left ≡ add_segment_left f a line n block)
+      here g = (
+        answers_behind (carried_refusal f a.marks line n (length block)) _ _ _ r h.0 g.0,
+        g.1 ∙ ap (λ (k : ℕ). kept k block (block_with (block_of n) a.marks line (segment_in line) block)) (sym (first_none (carried_refusal f a.marks line n (length block)) _ (sym h.0))),
       )
-
--- ---- a segment in its place, as the code goes
-
-module _ (n : ℕ) (a : Assembly) (line : List ℕ) (s : ℕ) (block : List ℕ) (k : ℕ) (told : k ≡ place_refusal n a (revisions_in line) line s block) where
-  abbrev pub IsPlaced : Added → List ℕ → Type 0
-  IsPlaced r left = (r ≡ place_answer n a line s block) × (left ≡ place_left n a line s block)
-
-  pub placed_refused : (k ≡ 0 → ⊥) → IsPlaced (added.Refused k) block
-  unfolding place_answer place_left
-  placed_refused some = (given_some added.Refused k _ _ told some, sym (kept_some _ _ _ (λ z. some (told ∙ z))))
-
-  pub placed_again : (r : Revisions) → k ≡ 0 → marked a.marks s ≡ true → r ≡ remembered a (revisions_in line)
-      → IsPlaced (placed (record { marks = a.marks; revisions = r }) s false) block
-  unfolding place_answer place_left assembly_with marks_with block_with
-  placed_again r z h e = (
-    given_none added.Refused k _ _ _ told z (rw h (ap (λ (x : Revisions). placed (record { marks = a.marks; revisions = x }) s false) e)),
-    sym (kept_none _ _ _ (sym told ∙ z) ∙ rw h refl),
-  )
-
-  pub placed_new : (r : Revisions) (m : Marks) (left : List ℕ) (b : Block) → k ≡ 0 → marked a.marks s ≡ false → r ≡ remembered a (revisions_in line) → m ≡ with_mark a.marks s
-      → left ≡ stored_of b line s block → b ≡ block_of n → IsPlaced (placed (record { marks = m; revisions = r }) s true) left
-  unfolding place_answer place_left assembly_with marks_with block_with
-  placed_new r m left b z h e f l own = (
-    given_none added.Refused k _ _ _ told z (rw h (ap₂ (λ (x : Marks) (y : Revisions). placed (record { marks = x; revisions = y }) s true) f e)),
-    l ∙ ap (λ (x : Block). stored_of x line s block) own ∙ sym (kept_none _ _ _ (sym told ∙ z) ∙ rw h refl),
-  )

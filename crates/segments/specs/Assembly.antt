@@ -1,12 +1,12 @@
 -- A segment of a block, out of a line: a first copy is stored and marked, an equal later copy changes nothing, and a
 -- different one is refused, as is one of a foreign revision. Refusals stand in the order in which they are tested. Assumes nothing.
-use Rattle.std.specs.Prelude.{ℕ, Bool, false, not, cond, List, ◌≡◌, length}
-use Rattle.refusals.specs.Refusals.{first, short_of, answered, kept, Genuine}
+use Rattle.std.specs.Prelude.{ℕ, Bool, false, not, cond, List, length, Result, Ok, Err}
+use Rattle.refusals.specs.declared.Refusal.{Refusal}
+use Rattle.refusals.specs.Refusals.{first, short_of, answered, kept, refuses, Answers}
 use Rattle.formats.specs.Formats.{line_bytes, format_refusal}
 use Rattle.document.specs.declared.segments.SubCommutation.{SubCommutation}
-use Rattle.document.specs.declared.segments.SubCommutation.TheVariants as sub
 use Rattle.sector_table.specs.Place.{doc_byte}
-use Rattle.document.specs.Segments.{sub_number, sub_values, sub_commutation_refusal}
+use Rattle.document.specs.Segments.{no_sub_commutation, sub_commutation_in, sub_commutation_refusal}
 use Rattle.blocks.specs.declared.block.Block.{Block}
 use Rattle.blocks.specs.declared.marks.Marks.{Marks}
 use Rattle.blocks.specs.declared.assembly.Assembly.{Assembly}
@@ -14,8 +14,7 @@ use Rattle.blocks.specs.Blocks.{block_of, block_refusal}
 use Rattle.blocks.specs.Marking.{marked, with_mark, marks_refusal}
 use Rattle.revisions.specs.Carried.{revisions_in, remembered}
 use Rattle.copies.specs.Copies.{stored_of, place_refusal}
-use Rattle.segments.specs.declared.Added.{Added}
-use Rattle.segments.specs.declared.Added.TheVariants.{Is, Refused}
+use Rattle.segments.specs.declared.Placed.{Placed}
 
 -- ---- one segment
 
@@ -27,14 +26,18 @@ marks_with m s = cond (marked m s) m (with_mark m s)
 unfoldable pub assembly_with : Assembly → List ℕ → ℕ → Assembly
 assembly_with a line s = record { marks = marks_with a.marks s; revisions = remembered a (revisions_in line) }
 
-abbrev pub placed : Assembly → ℕ → Bool → Added
-placed a s new = Is (record { assembly = a; segment = s; first_copy = new })
+abbrev pub placed : Assembly → ℕ → Bool → Placed
+placed a s new = record { assembly = a; segment = s; first_copy = new }
 
-abbrev pub placed_on : Assembly → List ℕ → ℕ → Added
+abbrev pub placed_on : Assembly → List ℕ → ℕ → Placed
 placed_on a line s = placed (assembly_with a line s) s (not (marked a.marks s))
 
-unfoldable pub place_answer : ℕ → Assembly → List ℕ → ℕ → List ℕ → Added
-place_answer n a line s block = answered Refused (place_refusal n a (revisions_in line) line s block) (placed_on a line s)
+-- a refusal says nothing of a segment, and the record goes on as it was
+abbrev pub not_placed : Assembly → Placed
+not_placed a = placed a 0 false
+
+unfoldable pub place_answer : ℕ → Assembly → List ℕ → ℕ → List ℕ → Result Placed Refusal
+place_answer n a line s block = answered refuses (place_refusal n a (revisions_in line) line s block) (Ok (placed_on a line s))
 
 -- the block once segment s of a line is taken
 unfoldable pub block_with : Block → Marks → List ℕ → ℕ → List ℕ → List ℕ
@@ -60,45 +63,32 @@ unfoldable pub carried_refusal : ℕ → Marks → List ℕ → ℕ → ℕ → 
 carried_refusal f m line n given = first (lent_refusal f m n (length line) given) (sub_commutation_refusal f line)
 
 -- which segment the line carries
-abbrev pub CarriedOk : ℕ → Marks → List ℕ → ℕ → ℕ → SubCommutation → Type 0
-CarriedOk f m line n given r =
-    (sub_number r ≡ carried_refusal f m line n given)
-    × (sub_values r ≡ kept (carried_refusal f m line n given) (0, 0) (segment_in line, doc_byte line 196))
-    × Genuine sub.Refused r
+abbrev pub CarriedOk : ℕ → Marks → List ℕ → ℕ → ℕ → Result SubCommutation Refusal → Type 0
+CarriedOk f m line n given r = Answers (carried_refusal f m line n given) no_sub_commutation (sub_commutation_in line) r
 
 -- 1, 12, 4, 2, 5, 6, 7, 14, 8
 unfoldable pub add_segment_refusal : ℕ → Assembly → List ℕ → ℕ → List ℕ → ℕ
 add_segment_refusal f a line n block = first (carried_refusal f a.marks line n (length block)) (place_refusal n a (revisions_in line) line (segment_in line) block)
 
--- the paper's number and values for each answer, and the record of the assembly after it
-abbrev pub added_number : Added → ℕ
-added_number (Is p) = 0
-added_number (Refused k) = k
+-- what an answer says of the segment, and the record of the assembly after it
+abbrev pub added_segment : Result Placed Refusal → ℕ
+added_segment (Ok p) = p.segment
+added_segment (Err e) = 0
 
-abbrev pub added_segment : Added → ℕ
-added_segment (Is p) = p.segment
-added_segment (Refused k) = 0
+abbrev pub added_new : Result Placed Refusal → Bool
+added_new (Ok p) = p.first_copy
+added_new (Err e) = false
 
-abbrev pub added_new : Added → Bool
-added_new (Is p) = p.first_copy
-added_new (Refused k) = false
-
-abbrev pub assembly_after : Assembly → Added → Assembly
-assembly_after a (Is p) = p.assembly
-assembly_after a (Refused k) = a
-
-abbrev pub added_values : Assembly → Added → ℕ × Bool × Assembly
-added_values a r = (added_segment r, added_new r, assembly_after a r)
+abbrev pub assembly_after : Assembly → Result Placed Refusal → Assembly
+assembly_after a (Ok p) = p.assembly
+assembly_after a (Err e) = a
 
 -- THE CONTRACT of `add_segment`: the number; and the segment, whether it is the first copy, and the record
-abbrev pub AddSegmentOk : ℕ → Assembly → List ℕ → ℕ → List ℕ → Added → Type 0
-AddSegmentOk f a line n block r =
-    (added_number r ≡ add_segment_refusal f a line n block)
-    × (added_values a r ≡ kept (add_segment_refusal f a line n block) (0, false, a) (segment_in line, not (marked a.marks (segment_in line)), assembly_with a line (segment_in line)))
-    × Genuine Refused r
+abbrev pub AddSegmentOk : ℕ → Assembly → List ℕ → ℕ → List ℕ → Result Placed Refusal → Type 0
+AddSegmentOk f a line n block r = Answers (add_segment_refusal f a line n block) (not_placed a) (placed_on a line (segment_in line)) r
 
-unfoldable pub add_segment_answer : ℕ → Assembly → List ℕ → ℕ → List ℕ → Added
-add_segment_answer f a line n block = answered Refused (add_segment_refusal f a line n block) (placed_on a line (segment_in line))
+unfoldable pub add_segment_answer : ℕ → Assembly → List ℕ → ℕ → List ℕ → Result Placed Refusal
+add_segment_answer f a line n block = answered refuses (add_segment_refusal f a line n block) (Ok (placed_on a line (segment_in line)))
 
 -- THE BLOCK BUFFER after it
 unfoldable pub add_segment_left : ℕ → Assembly → List ℕ → ℕ → List ℕ → List ℕ

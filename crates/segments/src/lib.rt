@@ -9,9 +9,11 @@
 #![tactic(auto)]
 
 ghost use Rattle.std.specs.Prelude.{◌≡◌};
+ghost use Rattle.refusals.specs.Refusals.{answer_number, Answers};
 ghost use Rattle.blocks.specs.Blocks.{block_of};
-ghost use Rattle.copies.specs.Copies.{Placeable};
-ghost use Rattle.segments.specs.Assembly.{place_answer, place_left, lent_refusal, CarriedOk, AddSegmentOk, add_segment_left};
+ghost use Rattle.revisions.specs.Carried.{revisions_in};
+ghost use Rattle.copies.specs.Copies.{Placeable, place_refusal};
+ghost use Rattle.segments.specs.Assembly.{not_placed, placed_on, place_left, lent_refusal, CarriedOk, AddSegmentOk, add_segment_left};
 
 use blocks::assembly::Assembly;
 use blocks::block::{block_of, block_refusal};
@@ -19,78 +21,82 @@ use blocks::marks::{Marks, is_marked, marks_refusal, with_mark};
 use copies::{place_refusal, store};
 use document::segments::{SubCommutation, sub_commutation};
 use formats::{Format, format_refusal};
-use refusals::{first, short};
+use refusals::{Refusal, enough};
 use revisions::{remembered, revisions_in};
 
 // What became of a line: the record of the assembly from now on, the segment that the line carried, and whether it was
-// the first copy, which was stored, or a later one equal to it.
-#[derive(Clone, Copy)]
+// the first copy, which was stored, or a later one equal to it. Refused, the assembly goes on with the record that it had.
+#[derive(Clone, Copy, Debug, PartialEq, Eq)]
 pub struct Placed {
     pub assembly: Assembly,
     pub segment: u8,
     pub first_copy: bool,
 }
 
-// The answer to a line. Refused, the assembly goes on with the record that it had.
-#[derive(Clone, Copy)]
-pub enum Added {
-    Is(Placed),
-    Refused(u8),
-}
-
 // Inner. A segment in its place: stored and marked where it is new, and the revisions remembered.
-fn place(number: u8, assembly: Assembly, line: &[u8], segment: u8, block: &mut [u8]) -> Added
+#[tactic(auto, using(refusals::proofs::Lent::lent_ok), unfolding(crate::specs::Assembly::place_left, crate::specs::Assembly::assembly_with, crate::specs::Assembly::marks_with, crate::specs::Assembly::block_with))]
+fn place(
+    number: u8,
+    assembly: Assembly,
+    line: &[u8],
+    segment: u8,
+    block: &mut [u8],
+) -> Result<Placed, Refusal>
     requires { Placeable (block_of number) line.now segment block.old }
-    ensures { (result ≡ place_answer number assembly line.now segment block.old) × (block.new ≡ place_left number assembly line.now segment block.old) }
+    ensures { Answers (place_refusal number assembly (revisions_in line.now) line.now segment block.old) (not_placed assembly) (placed_on assembly line.now segment) result × (block.new ≡ place_left number assembly line.now segment block.old) }
 {
     let carried = revisions_in(line);
-    let refused = place_refusal(number, assembly, carried, line, segment, block);
-    if refused != 0 {
-        return Added::Refused(refused);
-    }
+    place_refusal(number, assembly, carried, line, segment, block)?;
     let revisions = remembered(assembly, carried);
     let marks = assembly.marks;
     if is_marked(marks, segment) {
-        return Added::Is(Placed {
-            assembly: Assembly {
-                marks: marks,
-                revisions: revisions,
-            },
-            segment: segment,
+        return Ok(Placed {
+            assembly: Assembly { marks, revisions },
+            segment,
             first_copy: false,
         });
     }
     store(line, block_of(number), segment, block);
-    Added::Is(Placed {
+    Ok(Placed {
         assembly: Assembly {
             marks: with_mark(marks, segment),
-            revisions: revisions,
+            revisions,
         },
-        segment: segment,
+        segment,
         first_copy: true,
     })
 }
 
-// What refuses a line by what is lent with it: 1, 12, 4, 2; else 0.
-fn lent_refusal(format: u8, marks: Marks, number: u8, length: usize, given: usize) -> u8
-    ensures { result ≡ lent_refusal format marks number length given }
+// What refuses a line by what is lent with it: 1, 12, 4, 2.
+#[tactic(auto, using(refusals::proofs::Numbers::refused_first, refusals::proofs::Numbers::passed_first), unfolding(crate::specs::Assembly::lent_refusal))]
+fn lent_refusal(
+    format: u8,
+    marks: Marks,
+    number: u8,
+    length: usize,
+    given: usize,
+) -> Result<(), Refusal>
+    ensures { answer_number result ≡ lent_refusal format marks number length given }
 {
-    let asked = first(format_refusal(format), marks_refusal(marks));
-    let lengths = first(
-        short(length, Format::LINE_BYTES, refusals::SHORT_INPUT),
-        short(given, block_of(number).size, refusals::SHORT_INPUT),
-    );
-    first(asked, first(block_refusal(format, number), lengths))
+    format_refusal(format)?;
+    marks_refusal(marks)?;
+    block_refusal(format, number)?;
+    enough(length, Format::LINE_BYTES, Refusal::ShortInput)?;
+    enough(given, block_of(number).size, Refusal::ShortInput)
 }
 
 // Which segment a line carries, or what refuses it: 1, 12, 4, 2, 5, 6, 7.
-fn carried(format: u8, marks: Marks, line: &[u8], number: u8, given: usize) -> SubCommutation
+#[tactic(auto, using(refusals::proofs::Numbers::refused_first, refusals::proofs::Numbers::answers_err), unfolding(crate::specs::Assembly::carried_refusal))]
+fn carried(
+    format: u8,
+    marks: Marks,
+    line: &[u8],
+    number: u8,
+    given: usize,
+) -> Result<SubCommutation, Refusal>
     ensures { CarriedOk format marks line.now number given result }
 {
-    let refused = lent_refusal(format, marks, number, line.len(), given);
-    if refused != 0 {
-        return SubCommutation::Refused(refused);
-    }
+    lent_refusal(format, marks, number, line.len(), given)?;
     sub_commutation(format, line)
 }
 
@@ -104,11 +110,9 @@ pub fn add_segment(
     line: &[u8],
     number: u8,
     block: &mut [u8],
-) -> Added
+) -> Result<Placed, Refusal>
     ensures { AddSegmentOk format assembly line.now number block.old result × (block.new ≡ add_segment_left format assembly line.now number block.old) }
 {
-    match carried(format, assembly.marks, line, number, block.len()) {
-        SubCommutation::Is { segment, repeat: _ } => place(number, assembly, line, segment, block),
-        SubCommutation::Refused(k) => Added::Refused(k),
-    }
+    let carried = carried(format, assembly.marks, line, number, block.len())?;
+    place(number, assembly, line, carried.segment, block)
 }

@@ -20,18 +20,14 @@ fn set_in_field(s: &[u8], at: usize, width: usize) -> usize
 }
 
 // Inner. How many of count bits are set, at any place: in fields of sixteen bits, and in one of the bits that are left.
+#[tactic(auto, using(crate::proofs::Field::fields_none, crate::proofs::Field::fields_turn))]
 pub fn set_in_fields(s: &[u8], from: usize, count: usize) -> usize
     requires { (from + count ≤ 8 * length s.now) × (from + count < 2 ^ 64) }
     ensures { (result ≡ set_bits (part s.now from count)) × (result ≤ count) }
 {
-    if count == 0 {
-        return 0;
-    }
     let mut sum: usize = 0;
-    let mut i: usize = 0;
-    while count - i > 16 {
-        sum += set_in_field(s, from + i, 16);
-        i += 16;
+    for i in (0..count).step_by(16) {
+        sum += set_in_field(s, from + i, usize::min(16, count - i));
     }
-    sum + set_in_field(s, from + i, count - i)
+    sum
 }

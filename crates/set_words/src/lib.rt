@@ -17,11 +17,9 @@ pub fn set_in_words(s: &[u8], at: usize, n: usize) -> usize
     ensures { (result ≡ set_bits (part s.now (8 * at) (64 * n))) × (result ≤ 64 * n) }
 {
     let mut sum: usize = 0;
-    let mut word: usize = 0;
-    while word < n {
+    for word in 0..n {
         let place = at + 8 * word;
         sum += ones(word_at(s, place));
-        word += 1;
     }
     sum
 }

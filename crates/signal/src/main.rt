@@ -5,17 +5,17 @@
 // `writer`. Of its own functions it is proved that they are safe and end.
 #![tactic(auto)]
 
-ghost use Rattle.std.specs.Prelude.{◌*◌, ◌+◌, ◌≤◌, ◌<◌};
+ghost use Rattle.std.specs.Prelude.{◌≤◌, ◌<◌, IfOk};
 
-use std::io;
+use refusals::Refusal;
 use std::io::Print;
-use words::{Asked, Takes};
-use writer::Written;
+use text::Stop;
+use words::{Asked, MOST, Takes};
 
 mod pattern;
 mod wrong;
 
-const USAGE: [u8; 535] = *b"usage: signal [-2|-3] [N [FORMAT [W [T]]]]
+const USAGE: &str = "usage: signal [-2|-3] [N [FORMAT [W [T]]]]
 Writes a training recording of N lines, 0 to 1000000, to standard output; 10 where N is left out.
   FORMAT   1 is S-VISSR 2.0, as where it is left out, 2 is HiRID, 3 is 1 with a check that starts from ones
   W        so many bits, 0 to 64, are wrong in each line's tail; 0 where it is left out
@@ -24,116 +24,79 @@ Writes a training recording of N lines, 0 to 1000000, to standard output; 10 whe
 Standard error says `total N` where all of it was written.
 ";
 
-// No call of the system's has failed: that of a line that was not made.
-fn unmade() -> io::Error {
-    io::Error::from_raw_os_error(0)
-}
-
-// The first bytes of a line on the wire to standard output.
-fn send(rt: &HostRuntime, wire: &[u8], bytes: usize) -> io::Result<()> {
-    if wire.len() < bytes {
-        return Err(unmade());
-    }
-    rt.write_all(&wire[..bytes])
-}
-
-// Line k of the pattern, made and sent, with w wrong bits and new tables from line t on.
-fn one(rt: &HostRuntime, format: u8, k: u64, w: u64, t: u64) -> io::Result<()>
+// Line k of the pattern on the wire, with w wrong bits and new tables from line t on; how many bytes it has.
+fn made(format: u8, k: u64, w: u64, t: u64, wire: &mut [u8; 49500]) -> Result<usize, Refusal>
     requires { (k < 1000000) × (w ≤ 64) }
 {
-    let mut line = [0u8; 44356];
-    let mut wire = [0u8; 49500];
-    pattern::fill(format, k, t, &mut line);
-    match writer::write_line(format, &line, &mut wire) {
-        Written::Refused(_) => Err(unmade()),
-        Written::Put(bytes) => {
-            wrong::put(format, k, w, &mut wire);
-            send(rt, &wire, bytes)
-        }
-    }
+    let mut line = [0; 44356];
+    pattern::fill(format, k, t, &mut line)?;
+    let bytes = writer::write_line(format, &line, wire)?;
+    wrong::put(format, k, w, wire);
+    Ok(bytes)
 }
 
-// n lines, up to the first that cannot be written. The recording has no room for a last line of text: it is told.
-fn play(rt: &HostRuntime, format: u8, n: u64, w: u64, t: u64)
-    requires { (n ≤ 1000000) × (w ≤ 64) }
+// The number that the word at a place says, up to the largest that is meant, or what is meant where there is none.
+fn number_at(
+    rt: &HostRuntime,
+    place: Option<usize>,
+    meant: u64,
+    most: u64,
+    what: &str,
+) -> Result<u64, Stop>
+    requires { meant ≤ most }
+    ensures { IfOk result (λ n. n ≤ most) }
 {
-    let mut k: u64 = 0;
-    while k < n {
-        if let Err(error) = one(rt, format, k, w, t) {
-            text::fail(rt, b"standard output", &error);
-            return;
-        }
-        k += 1;
+    match place {
+        Some(place) => command::number_at(rt, place, most, what, USAGE),
+        None => Ok(meant),
     }
-    text::empty().words(b"total ").number(n).tell(rt);
 }
 
-// The format that the words ask for; 0 where they do not agree.
-fn format_of(rt: &HostRuntime, asked: Asked) -> u64 {
-    let format = command::number_at(rt, asked.second, asked.format as u64);
-    if asked.format != 1 && format != asked.format as u64 {
-        return 0;
+// The format that the words ask for; refused where they do not agree.
+fn format_of(rt: &HostRuntime, asked: &Asked) -> Result<u8, Stop> {
+    let Some(place) = asked.second else {
+        return Ok(asked.format.unwrap_or(1));
+    };
+    let what = "not the format, 1 to 3: ";
+    let format = command::number_at(rt, place, 3, what, USAGE)? as u8;
+    if format == 0 || asked.format.is_some_and(|other| other != format) {
+        return Err(command::refuse_word(rt, what, place, USAGE));
     }
-    format
+    Ok(format)
 }
 
-// n lines in a format with w wrong bits, and the new tables that the words ask for.
-fn renewed(rt: &HostRuntime, format: u8, n: u64, w: u64, asked: Asked)
-    requires { (n ≤ 1000000) × (w ≤ 64) }
-{
-    let t = command::number_at(rt, asked.fourth, 0);
-    if words::MOST < t {
-        command::refuse_word(
-            rt,
-            b"not the line of new tables, 0 to 1000000: ",
-            asked.fourth,
-            &USAGE,
-        );
-        return;
-    }
-    play(rt, format, n, w, t);
-}
-
-// n lines in a format, with the wrong bits and the new tables that the words ask for.
-fn damaged(rt: &HostRuntime, format: u8, n: u64, asked: Asked)
-    requires { n ≤ 1000000 }
-{
-    let w = command::number_at(rt, asked.third, 0);
-    if wrong::MOST < w {
-        command::refuse_word(
-            rt,
-            b"not a number of wrong bits, 0 to 64: ",
-            asked.third,
-            &USAGE,
-        );
-        return;
-    }
-    renewed(rt, format, n, w, asked);
-}
-
-fn main(rt: HostRuntime) {
+// As many lines as the words ask for, up to the first that cannot be written. The recording has no room for a last line of text: it
+// is told.
+fn play(rt: &HostRuntime) -> Result<(), Stop> {
     let takes = Takes {
         names: 4,
         setting: false,
     };
-    let asked = command::asked_for(&rt, takes);
-    if !command::goes_on(&rt, asked, &USAGE) {
-        return;
+    let asked = command::asked_for(rt, takes, USAGE)?;
+    let lines = number_at(
+        rt,
+        asked.first,
+        10,
+        MOST,
+        "not a number of lines, 0 to 1000000: ",
+    )?;
+    let format = format_of(rt, &asked)?;
+    let what = "not a number of wrong bits, 0 to 64: ";
+    let wrong = number_at(rt, asked.third, 0, wrong::MOST, what)?;
+    let what = "not the line of new tables, 0 to 1000000: ";
+    let tables = number_at(rt, asked.fourth, 0, MOST, what)?;
+    let mut wire = [0; 49500];
+    for k in 0..lines {
+        let bytes = made(format, k, wrong, tables, &mut wire).map_err(|refusal| text::told(
+            rt,
+            format_args!("a line is {refusal}"),
+        ))?;
+        rt.write_all(&wire[..bytes.min(wire.len())])?;
     }
-    let lines = command::number_at(&rt, asked.first, 10);
-    if words::MOST < lines {
-        command::refuse_word(
-            &rt,
-            b"not a number of lines, 0 to 1000000: ",
-            asked.first,
-            &USAGE,
-        );
-        return;
-    }
-    match format_of(&rt, asked) {
-        1 => damaged(&rt, 1, lines, asked),
-        2 => damaged(&rt, 2, lines, asked),
-        3 => damaged(&rt, 3, lines, asked),
-        _ => command::refuse_word(&rt, b"not the format, 1 to 3: ", asked.second, &USAGE),
-    }
+    let _ = eprintln!(rt; "total {lines}");
+    Ok(())
+}
+
+fn main(rt: HostRuntime) {
+    text::end(&rt, play(&rt));
 }

@@ -14,7 +14,9 @@
 // ((q q + 97 b q) / 5) % 256 of 1 and 2, and ((q q + 97 b q) / 5 + 85 r) % 256 of 3, 4 and 5: new tables differ at every byte.
 //
 // Pixel j, from 0, of sector s, w bits wide: (j (2 s + k + 1) + j / 3 + 5 s + k) % 2^w.
-ghost use Rattle.std.specs.Prelude.{◌+◌, ◌*◌, ◌≤◌, ◌<◌};
+ghost use Rattle.std.specs.Prelude.{◌≤◌, ◌<◌};
+
+use refusals::Refusal;
 
 // Two decimal digits as a byte.
 fn bcd(v: u64) -> u8 {
@@ -168,46 +170,47 @@ fn pixel(s: usize, k: usize, j: usize, values: usize) -> usize
     (times(j, 2 * s + k + 1) + j / 3 + 5 * s + k) % values
 }
 
-fn put_doc(format: u8, k: u64, r: usize, line: &mut [u8])
+fn put_doc(format: u8, k: u64, r: usize, line: &mut [u8]) -> Result<(), Refusal>
     requires { (k < 1000000) × (r ≤ 1) }
 {
-    let mut data = [0u8; 2291];
-    let mut i: usize = 0;
-    while i < 2291 {
-        data[i] = doc(format, k, r, i + 3);
-        i += 1;
+    let mut bytes = [0; 2291];
+    for (i, byte) in bytes.iter_mut().enumerate() {
+        *byte = doc(format, k, r, i + 3);
     }
-    sector_writer::write::put_data(format, line, 1, &data);
+    sector_writer::write::put_data(format, line, 1, &bytes)
 }
 
 // The pixels of a sector of at most eight bits, count of them.
-fn put_row(format: u8, k: usize, s: u8, count: usize, values: usize, line: &mut [u8])
+fn put_row(
+    format: u8,
+    k: usize,
+    s: u8,
+    count: usize,
+    values: usize,
+    line: &mut [u8],
+) -> Result<(), Refusal>
     requires { (k < 1024) × (s ≤ 12) × (count ≤ 9164) × (0 < values) × (values ≤ 256) }
 {
-    let mut row = [0u8; 9164];
-    let mut j: usize = 0;
-    while j < count {
-        row[j] = pixel(s as usize, k, j, values) as u8;
-        j += 1;
+    let mut row = [0; 9164];
+    for (j, value) in row[..count].iter_mut().enumerate() {
+        *value = pixel(s as usize, k, j, values) as u8;
     }
-    sector_writer::write::put_pixels(format, line, s, &row);
+    sector_writer::write::put_pixels(format, line, s, &row)
 }
 
 // The pixels of IR4.
-fn put_wide(format: u8, k: usize, line: &mut [u8])
+fn put_wide(format: u8, k: usize, line: &mut [u8]) -> Result<(), Refusal>
     requires { k < 1024 }
 {
-    let mut row = [0u16; 2291];
-    let mut j: usize = 0;
-    while j < 2291 {
-        row[j] = pixel(12, k, j, 1024) as u16;
-        j += 1;
+    let mut row = [0; 2291];
+    for (j, value) in row.iter_mut().enumerate() {
+        *value = pixel(12, k, j, 1024) as u16;
     }
-    sector_writer::write::put_pixels_wide(format, line, 12, &row);
+    sector_writer::write::put_pixels_wide(format, line, 12, &row)
 }
 
 // The pixels of sector s, 2 to 11.
-fn put_sector(format: u8, k: usize, s: u8, line: &mut [u8])
+fn put_sector(format: u8, k: usize, s: u8, line: &mut [u8]) -> Result<(), Refusal>
     requires { (k < 1024) × (s ≤ 12) }
 {
     match s {
@@ -219,27 +222,20 @@ fn put_sector(format: u8, k: usize, s: u8, line: &mut [u8])
 
 // r of line k, with new tables from line t on, or with none where t is 0.
 fn since(k: u64, t: u64) -> usize
+    requires { k < 1000000 }
     ensures { result ≤ 1 }
 {
-    if t == 0 {
-        return 0;
-    }
-    if k < t - 1 {
-        return 0;
-    }
-    1
+    usize::from(t > 0 && t <= k + 1)
 }
 
 // Inner. Line k, all twelve sectors, with new tables from line t on. Pixels go by k modulo 1,024: none is wider than ten bits.
-pub fn fill(format: u8, k: u64, t: u64, line: &mut [u8])
+pub fn fill(format: u8, k: u64, t: u64, line: &mut [u8]) -> Result<(), Refusal>
     requires { k < 1000000 }
 {
     let small = (k % 1024) as usize;
-    put_doc(format, k, since(k, t), line);
-    let mut s: u8 = 2;
-    while s < 12 {
-        put_sector(format, small, s, line);
-        s += 1;
+    put_doc(format, k, since(k, t), line)?;
+    for s in 2..12 {
+        put_sector(format, small, s, line)?;
     }
-    put_wide(format, small, line);
+    put_wide(format, small, line)
 }

@@ -19,9 +19,8 @@ fn place(k: u64, j: u64) -> usize
 
 // The bit at a place of a line on the wire, inverted.
 fn invert(wire: &mut [u8], bit: usize) {
-    let i = bit / 8;
-    if i < wire.len() {
-        wire[i] = wire[i] ^ 128 >> (bit % 8);
+    if let Some(byte) = wire.get_mut(bit / 8) {
+        *byte ^= 128 >> (bit % 8);
     }
 }
 
@@ -29,10 +28,12 @@ fn invert(wire: &mut [u8], bit: usize) {
 fn tail(format: u8) -> usize
     ensures { result ≤ 19936 }
 {
-    if format == 2 {
-        return Format::SYNC_BITS_2 - 64;
-    }
-    Format::SYNC_BITS_1 - 64
+    let sync = if format == 2 {
+        Format::SYNC_BITS_2
+    } else {
+        Format::SYNC_BITS_1
+    };
+    sync - 64
 }
 
 // Inner. Line k on the wire, with w wrong bits in its tail.
@@ -40,9 +41,7 @@ pub fn put(format: u8, k: u64, w: u64, wire: &mut [u8])
     requires { (k < 1000000) × (w ≤ 64) }
 {
     let tail = tail(format);
-    let mut j: u64 = 0;
-    while j < w {
+    for j in 0..w {
         invert(wire, tail + place(k, j));
-        j += 1;
     }
 }

@@ -8,8 +8,10 @@
 // refuse instead.
 #![tactic(auto)]
 
-ghost use Rattle.std.specs.Prelude.{◌≡◌, ◌++◌, ◌+◌, ◌*◌, ◌^◌, ◌≤◌, ◌<◌, length, take, drop, set};
+ghost use Rattle.std.specs.Prelude.{◌≡◌, ◌++◌, ◌+◌, ◌*◌, ◌^◌, ◌≤◌, ◌<◌, length, take, drop, set, map};
 ghost use Rattle.bits.specs.Bits.{bits_of, digits, packed_of};
+
+use slices::Stored;
 
 // Inner. One bit put, and every other kept.
 pub fn put_bit(s: &mut [u8], at: usize, b: u8)
@@ -22,42 +24,26 @@ pub fn put_bit(s: &mut [u8], at: usize, b: u8)
 }
 
 // Inner. The low width bits of v put from a place on, the highest first, and every other bit kept.
+#[tactic(auto, using(crate::proofs::Packs::field_none, crate::proofs::Packs::field_turn, crate::proofs::Packs::field_end))]
 pub fn put_field(s: &mut [u8], at: usize, width: usize, v: u16)
     requires { (at + width ≤ 8 * length s.old) × (at + width < 2 ^ 64) × (width ≤ 16) }
     ensures { bits_of s.new ≡ take at (bits_of s.old) ++ digits width v ++ drop (at + width) (bits_of s.old) }
 {
-    let mut i: usize = 0;
-    while i < width {
+    for i in 0..width {
         let b = (v >> (width - 1 - i)) & 1;
         put_bit(s, at + i, b as u8);
-        i += 1;
     }
 }
 
-// Inner. The first n numbers put at a width from a place on, one after the other, and every other bit kept.
-pub fn pack(fields: &[u16], n: usize, width: usize, s: &mut [u8], at: usize)
-    requires { (at + n * width ≤ 8 * length s.old) × (at + n * width < 2 ^ 64) × (width ≤ 16) × (n ≤ length fields.now) }
-    ensures { bits_of s.new ≡ take at (bits_of s.old) ++ packed_of width (take n fields.now) ++ drop (at + n * width) (bits_of s.old) }
+// Inner. Numbers put at a width from a place on, one after the other, and every other bit kept.
+#[tactic(auto, using(bits::proofs::Packing::packing_none, crate::proofs::Packs::packing_end))]
+pub fn pack<T: Stored>(fields: &[T], width: usize, s: &mut [u8], at: usize)
+    requires { (at + length fields.now * width ≤ 8 * length s.old) × (at + length fields.now * width < 2 ^ 64) × (width ≤ 16) }
+    ensures { bits_of s.new ≡ take at (bits_of s.old) ++ packed_of width (map T.number fields.now) ++ drop (at + length fields.now * width) (bits_of s.old) }
 {
-    let mut i: usize = 0;
     let mut place = at;
-    while i < n {
-        put_field(s, place, width, fields[i]);
+    for v in fields {
+        put_field(s, place, width, v.number());
         place += width;
-        i += 1;
-    }
-}
-
-// Inner. The same out of bytes.
-pub fn pack_bytes(fields: &[u8], n: usize, width: usize, s: &mut [u8], at: usize)
-    requires { (at + n * width ≤ 8 * length s.old) × (at + n * width < 2 ^ 64) × (width ≤ 16) × (n ≤ length fields.now) }
-    ensures { bits_of s.new ≡ take at (bits_of s.old) ++ packed_of width (take n fields.now) ++ drop (at + n * width) (bits_of s.old) }
-{
-    let mut i: usize = 0;
-    let mut place = at;
-    while i < n {
-        put_field(s, place, width, fields[i] as u16);
-        place += width;
-        i += 1;
     }
 }

@@ -8,7 +8,7 @@
 // refuse instead.
 #![tactic(auto)]
 
-ghost use Rattle.std.specs.Prelude.{◌≡◌, ◌++◌, ◌+◌, ◌*◌, ◌^◌, ◌≤◌, ◌<◌, length, get_or, drop};
+ghost use Rattle.std.specs.Prelude.{◌≡◌, ◌++◌, ◌+◌, ◌*◌, ◌^◌, ◌≤◌, ◌<◌, ℕ, length, get_or, drop, map};
 ghost use Rattle.bits.specs.Bits.{bits_of, part, number_of, fields_of};
 
 // Inner. The bit at a place.
@@ -23,7 +23,10 @@ pub fn bit_at(s: &[u8], at: usize) -> u8
 fn byte_or_zero(s: &[u8], i: usize) -> u32
     ensures { (result ≡ get_or s.now i 0) × (result < 2 ^ 8) }
 {
-    if i < s.len() { s[i] as u32 } else { 0 }
+    match s.get(i) {
+        Some(byte) => u32::from(*byte),
+        None => 0,
+    }
 }
 
 // Inner. The number that width bits from a place on write, the first bit the highest. Sixteen bits from any place
@@ -39,30 +42,58 @@ pub fn field(s: &[u8], at: usize, width: usize) -> u16
     ((n >> low) & mask) as u16
 }
 
-// Inner. The first n fields from a place on, into 16-bit numbers; what lies behind them in out is kept.
-pub fn unpack(s: &[u8], at: usize, width: usize, n: usize, out: &mut [u16])
-    requires { (at + n * width ≤ 8 * length s.now) × (at + n * width < 2 ^ 64) × (width ≤ 16) × (n ≤ length out.old) }
-    ensures { out.new ≡ fields_of width n (drop at (bits_of s.now)) ++ drop n out.old }
-{
-    let mut i: usize = 0;
-    let mut place = at;
-    while i < n {
-        out[i] = field(s, place, width);
-        place += width;
-        i += 1;
+// A number that is stored for a field of bits: a byte, or sixteen bits.
+pub trait Stored: Copy {
+    // How many bits it has room for, and which number it is.
+    ghost room: { ℕ };
+
+    ghost number: { Self → ℕ };
+
+    fn stored(field: u16) -> Self
+        requires { field < 2 ^ room }
+        ensures { number result ≡ field };
+
+    fn number(self) -> u16
+        ensures { result ≡ number self };
+}
+
+impl Stored for u8 {
+    ghost room = { 8 };
+
+    ghost number = { λ v. v };
+
+    fn stored(field: u16) -> Self {
+        field as u8
+    }
+
+    fn number(self) -> u16 {
+        u16::from(self)
     }
 }
 
-// Inner. The same into bytes, at a width of at most eight.
-pub fn unpack_bytes(s: &[u8], at: usize, width: usize, n: usize, out: &mut [u8])
-    requires { (at + n * width ≤ 8 * length s.now) × (at + n * width < 2 ^ 64) × (width ≤ 8) × (n ≤ length out.old) }
-    ensures { out.new ≡ fields_of width n (drop at (bits_of s.now)) ++ drop n out.old }
+impl Stored for u16 {
+    ghost room = { 16 };
+
+    ghost number = { λ v. v };
+
+    fn stored(field: u16) -> Self {
+        field
+    }
+
+    fn number(self) -> u16 {
+        self
+    }
+}
+
+// Inner. Fields from a place on, one after the other, into all of out: at a width that what stores them has room for.
+#[tactic(auto, using(crate::proofs::Unpacked::unpacked_none, crate::proofs::Unpacked::unpacked_more))]
+pub fn unpack<T: Stored>(s: &[u8], at: usize, width: usize, out: &mut [T])
+    requires { (at + length out.old * width ≤ 8 * length s.now) × (at + length out.old * width < 2 ^ 64) × (width ≤ 16) × (width ≤ T.room) }
+    ensures { map T.number out.new ≡ fields_of width (length out.old) (drop at (bits_of s.now)) }
 {
-    let mut i: usize = 0;
     let mut place = at;
-    while i < n {
-        out[i] = field(s, place, width) as u8;
+    for x in out.iter_mut() {
+        *x = T::stored(field(s, place, width));
         place += width;
-        i += 1;
     }
 }

@@ -9,14 +9,14 @@ use native.Mathlib.Omega.{arith}
 use lib.Dec.{ltb}
 use lib.ListN.{length, take, drop, length-drop, take-append-drop}
 use lib.Seq.{drop-drop, drop_at}
-use Rattle.refusals.specs.Refusals.{when, answered}
+use Rattle.std.specs.Prelude.{Result, Ok}
+use Rattle.refusals.specs.declared.Refusal.{Refusal}
+use Rattle.refusals.specs.Refusals.{when, answered, refuses}
 use Rattle.refusals.proofs.Words.{none_first, none_second}
 use Rattle.bits.specs.Bits.{bits_of, stretch, in_base, fields_of, Below}
 use Rattle.bits.proofs.Bytes.{length_bits, bits_append, bits_drop}
 use Rattle.bits.proofs.Fields.{fields_append}
 use Rattle.bits.proofs.Stretches.{stretch_length}
-use Rattle.numbers.specs.declared.Bcd.{Bcd}
-use Rattle.numbers.specs.declared.Bcd.TheVariants.{Is, Refused}
 use Rattle.numbers.specs.Decimals.{some_over9, decimal_of, digits_in}
 use Rattle.numbers.proofs.Nines.{none_over, over_none}
 use Rattle.bcd_dates.specs.Decimals.{part_number, part_refusal}
@@ -56,7 +56,7 @@ cut n k s l = sym (front n (take k s) (drop k s) l) ∙ ap (digits_in n) (take-a
 
 -- ---- a part that is not refused
 
-clean : (low high : ℕ) (t : Bool) (x : Bcd) → part_number low high (answered Refused (when t 7) x) ≡ 0 → t ≡ false
+clean : (low high : ℕ) (t : Bool) (x : Result ℕ Refusal) → part_number low high (answered refuses (when t 7) x) ≡ 0 → t ≡ false
 unfolding answered when
 clean low high true x e = absurd (omega arith)
 clean low high false x e = refl
@@ -65,7 +65,7 @@ part_clean : (s : List ℕ) (at n low high : ℕ) → 1 ≤ n → n ≤ 6 → at
 unfolding part_refusal decimal_of
 part_clean s at n low high one six there e =
     let ds : List ℕ = digits_in n (drop at s) in
-    over_none ds (clean low high (some_over9 ds) (Is (in_base 10 ds)) (ap (part_number low high) (sym (bcd_digits s at n one six there)) ∙ e))
+    over_none ds (clean low high (some_over9 ds) (Ok (in_base 10 ds)) (ap (part_number low high) (sym (bcd_digits s at n one six there)) ∙ e))
 
 date_clean : (r : List ℕ) → 8 ≤ length r → date_in_refusal r ≡ 0 → Below 10 (digits_in 8 r)
 unfolding date_in_refusal day_refusal time_refusal

@@ -1,3 +1,3 @@
 pub mod Opening
-pub mod Settled
 pub mod Putting
+pub mod Settled

@@ -5,7 +5,7 @@ use Prim.Native.Nat.{ℕ, ◌≤◌}
 use lib.Dec.{eqb, lit≤}
 use Rattle.formats.specs.Formats.{svissr, hirid, format_of}
 use Rattle.formats.specs.declared.Format.{Format}
-use Rattle.formats.specs.declared.FormatAnswer.TheVariants.{Is}
+use Rattle.std.specs.Prelude.{Ok}
 use Rattle.formats.proofs.Which.{of_each}
 use Rattle.scramble.specs.Register.{scrambling_bits}
 use Rattle.scramble.specs.Sync.{earlier_register, register_before, fifteen_ones, SYNC}
@@ -40,5 +40,5 @@ from_2 : SyncFrom hirid
 unfolding SYNC before_sync
 from_2 = ap (scrambling_bits 20000) (sym before_2)
 
-pub sync_from : (n : ℕ) (f : Format) → format_of n ≡ Is f → scrambling_bits f.sync (before_sync f.sync) ≡ SYNC f.sync
+pub sync_from : (n : ℕ) (f : Format) → format_of n ≡ Ok f → scrambling_bits f.sync (before_sync f.sync) ≡ SYNC f.sync
 sync_from = of_each SyncFrom from_1 from_2 from_1

@@ -7,7 +7,8 @@
 ghost use Rattle.std.specs.Prelude.{◌≡◌};
 ghost use Rattle.sync.specs.Put.{before_sync, PutSyncOk, put_sync_left};
 
-use formats::{Format, FormatAnswer};
+use formats::Format;
+use refusals::Refusal;
 use scramble::Register;
 
 // The registers from which SYNC's 10,000 and 20,000 bits lead to fifteen ones.
@@ -15,15 +16,9 @@ const BEFORE_1: u16 = 0x339f;
 
 const BEFORE_2: u16 = 0x61df;
 
-// The answer of `put_sync`: the bytes that SYNC takes.
-#[derive(Clone, Copy)]
-pub enum SyncPut {
-    Refused(u8),
-    Put(usize),
-}
-
 // Inner. The register before the first bit of a format's SYNC, by SYNC's length: a format with the SYNC of another begins
 // where that one does.
+#[tactic(auto, unfolding(crate::specs::Put::before_sync))]
 pub fn before_sync(f: Format) -> Register
     ensures { result.bits ≡ before_sync f.sync }
 {
@@ -36,19 +31,12 @@ pub fn before_sync(f: Format) -> Register
 
 // SYNC of a format, put at the front of out; the bytes of out past it stay. Refused with 1 for the format, and with 3
 // where out is shorter than SYNC.
-pub fn put_sync(format: u8, out: &mut [u8]) -> SyncPut
+pub fn put_sync(format: u8, out: &mut [u8]) -> Result<usize, Refusal>
     ensures { PutSyncOk format out.old result × (out.new ≡ put_sync_left format out.old) }
 {
-    match Format::of(format) {
-        FormatAnswer::Refused(number) => SyncPut::Refused(number),
-        FormatAnswer::Is(f) => {
-            let bytes = f.sync / 8;
-            let refused = refusals::short(out.len(), bytes, refusals::SHORT_OUTPUT);
-            if refused != 0 {
-                return SyncPut::Refused(refused);
-            }
-            sync_bits::put_scrambling(out, 0, f.sync, before_sync(f));
-            SyncPut::Put(bytes)
-        }
-    }
+    let f = Format::of(format)?;
+    let bytes = f.sync / 8;
+    refusals::enough(out.len(), bytes, Refusal::ShortOutput)?;
+    sync_bits::put_scrambling(out, 0, f.sync, before_sync(f));
+    Ok(bytes)
 }

@@ -6,24 +6,12 @@
 ghost use Rattle.std.specs.Prelude.{◌≡◌, ◌++◌, ◌+◌, ◌*◌, ◌^◌, ◌≤◌, ◌<◌, length, take, drop, set, replicate};
 ghost use Rattle.bits.specs.Bits.{bits_of};
 ghost use Rattle.scramble.specs.Register.{new_bit, next_register, register_after, scrambling_bits};
-ghost use Rattle.scramble.specs.Step.{step_bit};
 ghost use Rattle.scramble.specs.Sync.{fifteen_ones};
 ghost use Rattle.scramble.specs.Wire.{complemented};
 ghost use Rattle.runs.specs.Mixed.{Put};
 
-use scramble::{Register, StepBit};
+use scramble::Register;
 use wire_bits::mix_bytes;
-
-// Inner. The bit that a step gave, put at a place of s; 0 where the step was refused.
-fn put_given(s: &mut [u8], at: usize, a: StepBit)
-    requires { (at < 8 * length s.old) × (step_bit a < 2) }
-    ensures { bits_of s.new ≡ set (bits_of s.old) at (step_bit a) }
-{
-    match a {
-        StepBit::Bit(b) => slice_writer::put_bit(s, at, b),
-        StepBit::Refused(_) => slice_writer::put_bit(s, at, 0),
-    }
-}
 
 // Inner. The scrambling bit that follows a register, put at a place of s. The register is this function's own, lent to `step`,
 // which changes it in place; it comes back.
@@ -32,21 +20,20 @@ fn put_next(s: &mut [u8], at: usize, r: Register) -> Register
     ensures { (bits_of s.new ≡ set (bits_of s.old) at (new_bit r.bits)) × (result.bits ≡ next_register r.bits) }
 {
     let mut own = r;
-    let answer = scramble::step(&mut own);
-    put_given(s, at, answer);
+    let bit = scramble::step(&mut own).unwrap_or(0);
+    slice_writer::put_bit(s, at, bit);
     own
 }
 
 // Count scrambling bits, bit by bit: as `put_scrambling`.
+#[tactic(auto, using(crate::proofs::Each::each_turns))]
 fn put_each(s: &mut [u8], from: usize, count: usize, r: Register) -> Register
     requires { (from + count ≤ 8 * length s.old) × (from + count < 2 ^ 64) × (r.bits ≤ fifteen_ones) }
     ensures { (bits_of s.new ≡ take from (bits_of s.old) ++ scrambling_bits count r.bits ++ drop (from + count) (bits_of s.old)) × (result.bits ≡ register_after count r.bits) }
 {
     let mut reg = r;
-    let mut i: usize = 0;
-    while i < count {
+    for i in 0..count {
         reg = put_next(s, from + i, reg);
-        i += 1;
     }
     reg
 }
@@ -56,10 +43,8 @@ fn blank(s: &mut [u8], first: usize, n: usize)
     requires { first + n ≤ length s.old }
     ensures { Put s.old s.new (first * 8) (n * 8) (complemented 0 (replicate (n * 8) 0)) }
 {
-    let mut i: usize = 0;
-    while i < n {
+    for i in 0..n {
         s[first + i] = (i & 1) as u8 * 255;
-        i += 1;
     }
 }
 

@@ -11,15 +11,21 @@ use reader_bits::counts_as_tail;
 use tail_bytes::passes;
 
 // Inner. What the search gives: at the tail, the bytes taken and the low bits of the last byte still to read; else what is
-// remembered once all bytes are taken.
-#[derive(Clone, Copy)]
+// remembered once all bytes are taken. Both carry values and neither is an error: so no Option, and no Result.
+#[derive(Clone, Copy, Debug, PartialEq, Eq)]
 pub enum Sought {
     Found { taken: usize, left: u8, byte: u8 },
     Nothing { count: u8, search: u64 },
 }
 
+// How many bits are remembered: one fewer than the tail has.
+const REMEMBERED: u8 = 63;
+
+// Where fewer bits are remembered, a whole byte more completes no window.
+const ROOM_FOR_BYTE: u8 = 56;
+
 // How far the search went over whole bytes: the bytes taken, the last of them, and what is remembered.
-#[derive(Clone, Copy)]
+#[derive(Clone, Copy, Debug, PartialEq, Eq)]
 struct Passed {
     taken: usize,
     byte: u8,
@@ -31,32 +37,30 @@ fn pass_over(setting: u8, piece: &[u8], at: usize, byte0: u8, count: u8, search0
     requires { (at ≤ length piece.now) × (count < 64) × (search0 < 2 ^ count) }
     ensures { PassedOk setting piece.now at byte0 count search0 result }
 {
-    let mut taken = at;
-    let mut byte = byte0;
-    let mut search = search0;
-    if count != 63 {
+    if count != REMEMBERED {
         return Passed {
             taken: at,
             byte: byte0,
             search: search0,
         };
     }
-    while taken < piece.len() {
+    let mut byte = byte0;
+    let mut search = search0;
+    for taken in at..piece.len() {
         if !passes(setting, search) {
             return Passed {
-                taken: taken,
-                byte: byte,
-                search: search,
+                taken,
+                byte,
+                search,
             };
         }
         byte = piece[taken];
         search = ((search << 8) | byte as u64) & 0x7fff_ffff_ffff_ffff;
-        taken += 1;
     }
     Passed {
-        taken: taken,
-        byte: byte,
-        search: search,
+        taken: piece.len(),
+        byte,
+        search,
     }
 }
 
@@ -72,12 +76,14 @@ pub fn seek(setting: u8, piece: &[u8], count0: u8, search0: u64, left0: u8, byte
     let mut left = left0;
     let mut byte = byte0;
     let mut at: usize = 0;
+    // no `for` over the piece: `pass_over` takes many of its bytes at once
     'seek: loop {
+        // counted down by hand: what is left of a byte is part of the answer, and is put back to eight at each byte that is read
         while left > 0 {
             left -= 1;
             let b = ((byte >> left) & 1) as u64;
             let w = search * 2 + b;
-            if count < 63 {
+            if count < REMEMBERED {
                 count += 1;
                 search = w;
             } else {
@@ -91,14 +97,11 @@ pub fn seek(setting: u8, piece: &[u8], count0: u8, search0: u64, left0: u8, byte
         at = passed.taken;
         search = passed.search;
         if at == piece.len() {
-            return Sought::Nothing {
-                count: count,
-                search: search,
-            };
+            return Sought::Nothing { count, search };
         }
         byte = piece[at];
         at += 1;
-        if count < 56 {
+        if count < ROOM_FOR_BYTE {
             count += 8;
             search = search * 256 + byte as u64;
         } else {
@@ -107,7 +110,7 @@ pub fn seek(setting: u8, piece: &[u8], count0: u8, search0: u64, left0: u8, byte
     }
     Sought::Found {
         taken: at,
-        left: left,
-        byte: byte,
+        left,
+        byte,
     }
 }

@@ -1,16 +1,18 @@
 -- Parts of a strip, lent one after the other. Of a strip l, the first m elements are p, and it goes on as x did. Assumes
 -- nothing.
 use mathlib.Core.Path.{◌≡◌, refl, sym, ap, ap₂, ◌∙◌}
-use mathlib.Core.List.{List, [], ◌++◌, append_assoc}
+use mathlib.Core.List.{List, [], ◌++◌, append_assoc, append-nil}
 use Prim.Native.Nat.{ℕ, ◌+◌, ◌*◌, ◌-◌, ◌≤◌}
 use native.Mathlib.Omega.{arith}
-use lib.ListN.{length, take, drop, length-append, length-drop}
+use lib.ListN.{length, take, drop, length-append, length-drop, drop_of_length-le}
 use lib.Seq.{take_at, drop_at, drop-drop, length-take-le}
 use Rattle.refusals.specs.Refusals.{first, short_of}
 use Rattle.refusals.proofs.Words.{none_first, none_second, enough, length_kept}
 use Rattle.formats.specs.Formats.{line_bytes, format_refusal}
 use Rattle.bits.proofs.Fields.{length_fields}
-use Rattle.sector_table.specs.Layout.{sectors, layout_of}
+use Rattle.sector_table.specs.declared.layout.Layout.{Layout}
+use Rattle.sector_table.specs.Layout.{sectors, layout_of, Sound}
+use Rattle.sector_table.proofs.Table.{sound, thin}
 use Rattle.sector_check.specs.Sector.{answer_of, pixels_of}
 use Rattle.sector_table.proofs.Rows.{Each, among}
 use Rattle.visible.specs.Strip.{part_bytes, strip_bytes, visible_of, lent_of, strip_of, strip_refusal}
@@ -25,6 +27,19 @@ pub length_visible : (start n : ℕ) (b was : List ℕ) → 5 ≤ n → n ≤ 8 
 unfolding visible_of pixels_of
 length_visible start n b was lo hi e =
     length_kept (answer_of start (layout_of n) b) was (pixels_of (layout_of n) b) part_bytes e (length_fields (layout_of n).width (layout_of n).count _ ∙ visible_count n lo hi)
+
+-- l is the row that the code has found: what the unpacker asks, and what it leaves
+pub visible_ready : (n len room : ℕ) (l : Layout) → l ≡ layout_of n → 5 ≤ n → n ≤ 8 → line_bytes ≤ len → room ≡ part_bytes → Sound l × (line_bytes ≤ len) × (l.width ≤ 8) × (l.count ≤ room)
+visible_ready n len room l row lo hi long part =
+    rw row (sound n (omega arith) (omega arith), long, thin n (omega arith) (omega arith), omega (arith, visible_count n lo hi))
+
+pub visible_filled : (n : ℕ) (b was becomes : List ℕ) (l : Layout) → l ≡ layout_of n → 5 ≤ n → n ≤ 8 → length was ≡ part_bytes → becomes ≡ pixels_of l b ++ drop l.count was → becomes ≡ pixels_of (layout_of n) b
+visible_filled n b was becomes l row lo hi part e =
+    let none : drop (layout_of n).count was ≡ [] = drop_of_length-le was (omega (arith, visible_count n lo hi)) in
+    e
+    ∙ ap (λ (l : Layout). pixels_of l b ++ drop l.count was) row
+    ∙ ap (λ (r : List ℕ). pixels_of (layout_of n) b ++ r) none
+    ∙ append-nil (pixels_of (layout_of n) b)
 
 -- ---- one part after the other
 

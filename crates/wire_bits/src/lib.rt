@@ -13,19 +13,17 @@ use scramble::{Register, mix_bit};
 use wire_words::{mix_each, mix_words};
 
 // Count bits of s, bit by bit: as `mix`.
+#[tactic(auto, using(crate::proofs::Target::target_turns))]
 fn mix_bits(s: &mut [u8], from: usize, count: usize, place: usize, r: Register) -> Register
     requires { (from + count ≤ 8 * length s.old) × (from + count < 2 ^ 64) × (place + count < 2 ^ 64) }
     ensures { (bits_of s.new ≡ take from (bits_of s.old) ++ wire_of place r.bits (part s.old from count) ++ drop (from + count) (bits_of s.old)) × (result.bits ≡ register_after count r.bits) }
 {
     let mut reg = r;
-    let mut i: usize = 0;
-    while i < count {
+    for i in 0..count {
         let b = slices::bit_at(s, from + i);
         let t = mix_bit(place + i, reg, b);
         slice_writer::put_bit(s, from + i, t.bit);
-        let next = t.next;
-        reg = next;
-        i += 1;
+        reg = t.next;
     }
     reg
 }

@@ -25,9 +25,6 @@ use Rattle.runs.proofs.Words.{key_byte_lt, groups_by, groups_word}
 one_shl : (w : ℕ) → w ≤ 14 → 1 * 2 ^ w % 2 ^ 16 ≡ 2 ^ w
 one_shl w h = ap (λ (m : ℕ). m % 2 ^ 16) (one-mul (2 ^ w)) ∙ mod-eq_of_lt {n = 2 ^ w} {m = 2 ^ 16} (pow-lt {i = w} {j = 16} (omega arith))
 
-pub one_shl_pos : (w : ℕ) → w ≤ 14 → 1 ≤ 1 * 2 ^ w % 2 ^ 16
-one_shl_pos w h = rw (one_shl w h) (pow_pos w)
-
 -- the code's key
 code_key : (w r : ℕ) → w ≤ 14 → bit_and (bit_xor r (r / 2 ^ 1) / 2 ^ (14 - w)) (1 * 2 ^ w % 2 ^ 16 - 1) ≡ key_of w r
 code_key w r h = ap (λ (m : ℕ). bit_and (bit_xor r (r / 2 ^ 1) / 2 ^ (14 - w)) (m - 1)) (one_shl w h) ∙ and_mask (bit_xor r (r / 2 ^ 1) / 2 ^ (14 - w)) w
@@ -48,11 +45,6 @@ code_run w r l h =
     )
 
 -- ---- the groups
-
-pub code_group : (place : ℕ) → bit_and (0x00ff00ff00ff00ff / 2 ^ (56 - bit_and place 15)) 255 ≡ groups_of 8 place
-code_group place =
-    let e : 56 - bit_and place 15 ≡ 64 - place % 16 - 8 = omega (arith, and_mask place 4) in
-    and_mask (0x00ff00ff00ff00ff / 2 ^ (56 - bit_and place 15)) 8 ∙ ap (λ (d : ℕ). 0x00ff00ff00ff00ff / 2 ^ d % 2 ^ 8) e
 
 pub code_groups : (place g h : ℕ) → g ≡ groups_of 8 (bit_and place 15) → h ≡ groups_of 8 (bit_and place 15 + 8) → (g + h * 256) * 0x0001000100010001 ≡ group_word place
 code_groups place g h eg eh =
@@ -90,6 +82,3 @@ code_after a h =
     let m = and_mask (a / 2 ^ 48) 7 in
     let fits : bit_and (a / 2 ^ 48) 127 * 2 ^ 8 % 2 ^ 64 ≡ a / 2 ^ 48 % 2 ^ 7 * 2 ^ 8 = omega arith in
     ap (λ (x : ℕ). bit_or x (a / 2 ^ 56)) fits ∙ or_shifted (a / 2 ^ 48 % 2 ^ 7) 8 (a / 2 ^ 56) (shr_lt 8 56 h)
-
-pub code_after_lt : (a : ℕ) → a < 2 ^ 64 → bit_or (bit_and (a / 2 ^ 48) 127 * 2 ^ 8 % 2 ^ 64) (a / 2 ^ 56) < 2 ^ 16
-code_after_lt a h = rw (code_after a h) (omega (arith, shr_lt {n = a} 8 56 h))

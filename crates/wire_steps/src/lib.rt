@@ -31,7 +31,7 @@ pub fn shift_by(r: Register, w: usize) -> Run
     let next = ((b << w) | key) & 0x7fff;
     Run {
         next: Register { bits: next },
-        key: key,
+        key,
     }
 }
 
@@ -66,13 +66,10 @@ pub struct Eight {
 pub fn mix_byte(byte: u8, place: usize, r: Register) -> Eight
     ensures { (digits 8 result.byte ≡ wire_of place r.bits (digits 8 byte)) × (result.next.bits ≡ register_after 8 r.bits) }
 {
-    let run = shift_by(r, 8);
-    let next = run.next;
-    let key = run.key as u8;
-    let mixed = byte ^ group_byte(place) ^ key;
+    let Run { next, key } = shift_by(r, 8);
     Eight {
-        next: next,
-        byte: mixed,
+        next,
+        byte: byte ^ group_byte(place) ^ key as u8,
     }
 }
 
@@ -89,18 +86,12 @@ pub fn first_word(r: Register) -> Word
 {
     let mut reg = r;
     let mut key: u64 = 0;
-    let mut i: usize = 0;
-    while i < 8 {
+    for i in 0..8usize {
         let run = shift_by(reg, 8);
-        key = key | ((run.key as u64) << (i * 8));
-        let next = run.next;
-        reg = next;
-        i += 1;
+        key |= (run.key as u64) << (i * 8);
+        reg = run.next;
     }
-    Word {
-        next: reg,
-        key: key,
-    }
+    Word { next: reg, key }
 }
 
 // Inner. The word of the key behind two that follow one another: each of its bits is the exclusive or of the bits 112 and 120
@@ -117,5 +108,5 @@ pub fn after_word(key: u64) -> Register
 {
     let high = ((key >> 48) & 0x7f) << 8;
     let bits = (high | (key >> 56)) as u16;
-    Register { bits: bits }
+    Register { bits }
 }

@@ -25,8 +25,7 @@ pub fn mix_words(s: &mut [u8], first: usize, n: usize, place: usize, r: Register
     let mut a = one.key;
     let mut b = two.key;
     let mut last: u64 = 0;
-    let mut i: usize = 0;
-    while i < n {
+    for i in 0..n {
         let at = first + i * 8;
         let x = word_at(s, at);
         put_word(s, at, x ^ groups ^ a);
@@ -34,7 +33,6 @@ pub fn mix_words(s: &mut [u8], first: usize, n: usize, place: usize, r: Register
         let c = further(a, b);
         a = b;
         b = c;
-        i += 1;
     }
     after_word(last)
 }
@@ -45,13 +43,10 @@ pub fn mix_each(s: &mut [u8], first: usize, n: usize, place: usize, r: Register)
     ensures { Mixed s.old s.new first n place r.bits result.bits }
 {
     let mut reg = r;
-    let mut i: usize = 0;
-    while i < n {
+    for i in 0..n {
         let m = mix_byte(s[first + i], place + i * 8, reg);
         s[first + i] = m.byte;
-        let next = m.next;
-        reg = next;
-        i += 1;
+        reg = m.next;
     }
     reg
 }

@@ -1,75 +1,46 @@
--- A pixel over its width: the loop that looks for one, and what is known where there is none. Assumes nothing.
-use mathlib.Core.Path.{◌≡◌, refl, sym, ap, ◌∙◌}
-use mathlib.Core.List.{List, [], ◌∷◌, ◌++◌}
-use Prim.Native.Nat.{ℕ, suc, ◌+◌, ◌-◌, ◌≤◌, ◌<◌}
-use native.Mathlib.Numerals.{add-one}
+-- A pixel over its width, and what is known where there is none. Assumes nothing.
+use mathlib.Core.Bool.{Bool, true, false}
+use mathlib.Core.Path.{◌≡◌, refl, sym, ◌∙◌}
+use mathlib.Core.List.{List, [], ◌∷◌, map}
+use Prim.Native.Nat.{ℕ, zero, suc, ◌<◌}
 use native.Mathlib.Omega.{arith}
 use lib.Dec.{leb}
-use lib.ListN.{length, get_or, take, drop}
-use lib.Seq.{take-suc, take-add, take_all, drop-cons}
-use borrow.Author.Tests.{le-leb, lt-leb, leb-false}
+use lib.ListN.{take}
+use borrow.Author.Tests.{lt-leb, leb-false}
+use Rattle.std.specs.Prelude.{All, IsTrue}
+use Rattle.std.proofs.lemmas.List.{take-map}
 use Rattle.refusals.specs.Refusals.{first, when}
-use Rattle.refusals.proofs.Words.{first_some, first_none, none_first, none_second, none_when, when_true, when_false}
-use Rattle.refusals.proofs.Chains.{first_assoc}
+use Rattle.refusals.proofs.Words.{first_none, none_first, none_second, none_when, when_false}
 use Rattle.bits.specs.Bits.{Below}
 use Rattle.write_refusals.specs.Refusing.{over_of}
 
-over_append : (m : ℕ) (xs ys : List ℕ) → over_of m (xs ++ ys) ≡ first (over_of m xs) (over_of m ys)
-unfolding over_of
-over_append m [] ys = unfold first in refl
-over_append m (x ∷ xs) ys = ap (first (when (leb m x) 10)) (over_append m xs ys) ∙ sym (first_assoc (when (leb m x) 10) (over_of m xs) (over_of m ys))
+-- f is the number that each of what stands there is: none over, or one
+module _ {A : Type 0} (f : A → ℕ) (m : ℕ) where
+  below_all : (xs : List A) → All (λ x. f x < m) xs → 0 ≡ over_of m (map f xs)
+  unfolding over_of
+  below_all [] h = refl
+  below_all (x ∷ xs) h =
+      let rest : All (λ x. f x < m) xs = λ k d p. h (suc k) d (omega (arith, p)) in
+      below_all xs rest ∙ sym (first_none (when (leb m (f x)) 10) (over_of m (map f xs)) (when_false (leb m (f x)) 10 (lt-leb m (f x) (h 0 x (omega arith)))))
 
--- ---- the loop that looks for one
+  one_more : (x : A) (xs : List A) → f x < m → All (λ x. f x < m) xs → All (λ x. f x < m) (x ∷ xs)
+  one_more x xs h rest zero d p = h
+  one_more x xs h rest (suc k) d p = rest k d (omega (arith, p))
 
--- the first i of n were seen, and none is over
-pub record Seen (m : ℕ) (ps : List ℕ) (n i : ℕ) : Type 0 where
-  pub among : i ≤ n
-  pub none : over_of m (take i ps) ≡ 0
+  over_some : (xs : List A) → (All (λ x. f x < m) xs → ⊥) → 10 ≡ over_of m (map f xs)
+  unfolding over_of first when
+  over_some [] h = absurd (h (λ k d p. absurd (omega (arith, p))))
+  over_some (x ∷ xs) h = by (leb m (f x)) refl (over_some xs)
+    where
+      by : (t : Bool) → leb m (f x) ≡ t → ((All (λ x. f x < m) xs → ⊥) → 10 ≡ over_of m (map f xs)) → 10 ≡ first (when t 10) (over_of m (map f xs))
+      by true e rest = refl
+      by false e rest = rest (λ each. h (one_more x xs (leb-false m (f x) e) each))
 
-pub seen_none : (m : ℕ) (ps : List ℕ) (n : ℕ) → Seen m ps n 0
-unfolding over_of
-seen_none m ps n = record { among = omega arith; none = refl }
+  pub none_found : (n : ℕ) (xs : List A) → All (λ x. f x < m) (take n xs) → 0 ≡ over_of m (take n (map f xs))
+  none_found n xs h = rw take-map (below_all (take n xs) h)
 
-over_one : (m x : ℕ) → x < m → over_of m (x ∷ []) ≡ 0
-unfolding over_of
-over_one m x h = first_none (when (leb m x) 10) 0 (when_false (leb m x) 10 (lt-leb m x h))
-
-over_first : (m x : ℕ) (xs : List ℕ) → m ≤ x → over_of m (x ∷ xs) ≡ 10
-unfolding over_of
-over_first m x xs h = ap (λ (r : ℕ). first r (over_of m xs)) (when_true (leb m x) 10 (le-leb m x h)) ∙ first_some 10 (over_of m xs) (λ z. omega arith)
-
-module _ {m : ℕ} {ps : List ℕ} {n i : ℕ} (seen : Seen m ps n i) where
-  -- a turn that found none
-  pub seen_more : (i ≡ n → ⊥) → i < length ps → get_or ps i 0 < m → Seen m ps n (i + 1)
-  seen_more more h small = record {
-    among = omega (arith, seen.among, more);
-    none =
-        ap (λ (k : ℕ). over_of m (take k ps)) (add-one i)
-        ∙ ap (over_of m) (take-suc ps i 0 h)
-        ∙ over_append m (take i ps) (get_or ps i 0 ∷ [])
-        ∙ first_none (over_of m (take i ps)) (over_of m (get_or ps i 0 ∷ [])) seen.none
-        ∙ over_one m (get_or ps i 0) small;
-  }
-
-  -- one that found it
-  pub seen_over : (i ≡ n → ⊥) → i < length ps → m ≤ get_or ps i 0 → 10 ≡ over_of m (take n ps)
-  seen_over more h big =
-      let k : ℕ = n - i - 1 in
-      let much : n ≡ i + suc k = omega (arith, seen.among, more) in
-      let rest : take (suc k) (drop i ps) ≡ get_or ps i 0 ∷ take k (drop (suc i) ps) = ap (take (suc k)) (drop-cons ps i 0 h) in
-      let split : take n ps ≡ take i ps ++ (get_or ps i 0 ∷ take k (drop (suc i) ps)) =
-      ap (λ (j : ℕ). take j ps) much ∙ take-add i (suc k) ps ∙ ap (λ (t : List ℕ). take i ps ++ t) rest in
-      sym (ap (over_of m) split
-      ∙ over_append m (take i ps) (get_or ps i 0 ∷ take k (drop (suc i) ps))
-      ∙ first_none (over_of m (take i ps)) (over_of m (get_or ps i 0 ∷ take k (drop (suc i) ps))) seen.none
-      ∙ over_first m (get_or ps i 0) (take k (drop (suc i) ps)) big)
-
-  -- the end: n were seen, or all
-  pub seen_enough : i ≡ n → 0 ≡ over_of m (take n ps)
-  seen_enough e = sym (ap (λ (k : ℕ). over_of m (take k ps)) (sym e) ∙ seen.none)
-
-  pub seen_all : length ps ≤ i → 0 ≡ over_of m (take n ps)
-  seen_all h = sym (ap (over_of m) (take_all n ps (omega (arith, seen.among)) ∙ sym (take_all i ps h)) ∙ seen.none)
+  pub one_found : (n : ℕ) (xs : List A) → (All (λ x. f x < m) (take n xs) → IsTrue false) → 10 ≡ over_of m (take n (map f xs))
+  one_found n xs h = rw take-map (over_some (take n xs) (λ each. let e : ◌≡◌ {A = Bool} false true = h each in cc))
 
 -- none is over: each is below
 pub none_over : (m : ℕ) (ps : List ℕ) → over_of m ps ≡ 0 → Below m ps

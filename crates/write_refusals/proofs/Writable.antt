@@ -1,5 +1,5 @@
 -- What is known once a call that writes is not refused. Assumes nothing.
-use mathlib.Core.Path.{◌≡◌, sym, ap, ap₂, subst, ◌∙◌}
+use mathlib.Core.Path.{◌≡◌, sym, subst}
 use mathlib.Core.List.{List}
 use Prim.Native.Nat.{ℕ, ◌^◌, ◌≤◌}
 use native.Mathlib.Omega.{arith}
@@ -62,13 +62,6 @@ module _ (lo hi f len n : ℕ) (ps : List ℕ) (e : put_pixels_answer lo hi f le
 -- ---- where the code has found the sector's row
 
 module _ (n : ℕ) {l : Layout} (found : l ≡ layout_of n) where
-  pub row_chain : (len : ℕ) (ps : List ℕ) {limit over short r : ℕ} → limit ≡ 2 ^ l.width → over ≡ over_of limit (take l.count ps)
-      → short ≡ input_short len (length ps) l.count → r ≡ first over short
-      → r ≡ first (over_of (2 ^ (layout_of n).width) (take (layout_of n).count ps)) (input_short len (length ps) (layout_of n).count)
-  row_chain len ps el eo es e =
-      e ∙ ap₂ first (eo ∙ ap (λ (m : ℕ). over_of m (take l.count ps)) el) es
-      ∙ ap (λ (l : Layout). first (over_of (2 ^ l.width) (take l.count ps)) (input_short len (length ps) l.count)) found
-
   -- size is what must be given
   pub ready : (size : Layout → ℕ) {lo hi len given : ℕ} → 1 ≤ lo → hi ≤ 12 → Writable lo hi n len given (size (layout_of n)) → Sound l × (line_bytes ≤ len) × (size l ≤ given)
   ready size {len = len} {given = given} one top h =

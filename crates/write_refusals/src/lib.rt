@@ -1,16 +1,18 @@
-// What refuses data and pixels that are to be written into a sector of a plain line, with the loop that looks for a pixel over its
-// width. The calls are in `sector_writer`.
+// What refuses data and pixels that are to be written into a sector of a plain line, with the search for a pixel over its width. The
+// calls are in `sector_writer`.
 //
 // The contracts cite `specs/Refusing.antt`. All functions are marked "Inner.".
 #![tactic(auto)]
 
-ghost use Rattle.std.specs.Prelude.{◌≡◌, ◌^◌, ◌≤◌, take};
+ghost use Rattle.std.specs.Prelude.{◌≡◌, ◌^◌, ◌≤◌, ◌<◌, ◌↔◌, IsTrue, All, map, take};
+ghost use Rattle.refusals.specs.Refusals.{answer_number};
 ghost use Rattle.write_refusals.specs.Refusing.{over_of, input_short, put_data_answer, put_pixels_answer};
 
 use formats::Format;
-use refusals::{first, short};
+use refusals::{Refusal, enough};
 use sector_table::asked::asked;
 use sector_table::layout::{data_bytes, layout_of};
+use slices::Stored;
 
 // Inner. The first number that does not fit a width.
 pub fn limit_of(width: usize) -> u32
@@ -20,87 +22,60 @@ pub fn limit_of(width: usize) -> u32
     1u32 << width
 }
 
-// Inner. 10 where one of the first n pixels is not below the limit, or of all where there are fewer than n; else 0.
-pub fn over_bytes(pixels: &[u8], n: usize, limit: u32) -> u8
-    ensures { result ≡ over_of limit (take n pixels.now) }
+// Inner. Whether each of the first n pixels is below the limit, or each of all where there are fewer than n.
+fn each_below<T: Stored>(pixels: &[T], n: usize, limit: u32) -> bool
+    ensures { IsTrue result ↔ All (λ pixel. T.number pixel < limit) (take n pixels.now) }
 {
-    let mut i: usize = 0;
-    while i < pixels.len() {
-        if i == n {
-            return 0;
-        }
-        if limit <= pixels[i] as u32 {
-            return refusals::RANGE;
-        }
-        i += 1;
-    }
-    0
+    pixels
+        .iter()
+        .take(n)
+        .all(|pixel| u32::from(pixel.number()) < limit)
 }
 
-// Inner. The same of pixels of sixteen bits.
-pub fn over_wide(pixels: &[u16], n: usize, limit: u32) -> u8
-    ensures { result ≡ over_of limit (take n pixels.now) }
+// Inner. Refuses, with 10, where one of the first n pixels is not below the limit, or of all where there are fewer than n.
+fn over<T: Stored>(pixels: &[T], n: usize, limit: u32) -> Result<(), Refusal>
+    ensures { answer_number result ≡ over_of limit (take n (map T.number pixels.now)) }
 {
-    let mut i: usize = 0;
-    while i < pixels.len() {
-        if i == n {
-            return 0;
-        }
-        if limit <= pixels[i] as u32 {
-            return refusals::RANGE;
-        }
-        i += 1;
+    if each_below(pixels, n, limit) {
+        Ok(())
+    } else {
+        Err(Refusal::Range)
     }
-    0
 }
 
-// Inner. 2 where the line's buffer is short, or fewer were given than are needed; else 0.
-fn input_short(length: usize, given: usize, needed: usize) -> u8
-    ensures { result ≡ input_short length given needed }
+// Inner. Refuses, with 2, where the line's buffer is short, or fewer were given than are needed.
+#[tactic(auto, using(refusals::proofs::Numbers::refused_first, refusals::proofs::Numbers::passed_first), unfolding(crate::specs::Refusing::input_short))]
+fn input_short(length: usize, given: usize, needed: usize) -> Result<(), Refusal>
+    ensures { answer_number result ≡ input_short length given needed }
 {
-    first(
-        short(length, Format::LINE_BYTES, refusals::SHORT_INPUT),
-        short(given, needed, refusals::SHORT_INPUT),
-    )
+    enough(length, Format::LINE_BYTES, Refusal::ShortInput)?;
+    enough(given, needed, Refusal::ShortInput)
 }
 
-// Inner. What refuses data: 1, 4, 2; else 0.
-pub fn data_refusal(format: u8, length: usize, sector: u8, given: usize) -> u8
-    ensures { result ≡ put_data_answer format length sector given }
+// Inner. Refuses data, with 1, 4, 2.
+#[tactic(auto, using(refusals::proofs::Numbers::refused_first, refusals::proofs::Numbers::passed_first), unfolding(crate::specs::Refusing::put_data_answer))]
+pub fn data_refusal(format: u8, length: usize, sector: u8, given: usize) -> Result<(), Refusal>
+    ensures { answer_number result ≡ put_data_answer format length sector given }
 {
-    let refused = asked(format, 1, 12, sector);
-    if refused != 0 {
-        return refused;
-    }
+    asked(format, 1, 12, sector)?;
     input_short(length, given, data_bytes(layout_of(sector)))
 }
 
-// Inner. What refuses pixels out of bytes: 1, 4, 10, 2; else 0.
-pub fn pixels_refusal(format: u8, length: usize, sector: u8, pixels: &[u8]) -> u8
-    ensures { result ≡ put_pixels_answer 2 11 format length sector pixels.now }
+// Inner. Refuses the pixels of a sector from lo to hi, with 1, 4, 10, 2.
+#[tactic(auto, using(refusals::proofs::Numbers::refused_first, refusals::proofs::Numbers::passed_first), unfolding(crate::specs::Refusing::put_pixels_answer))]
+pub fn pixels_refusal<T: Stored>(
+    format: u8,
+    lo: u8,
+    hi: u8,
+    length: usize,
+    sector: u8,
+    pixels: &[T],
+) -> Result<(), Refusal>
+    requires { (1 ≤ lo) × (hi ≤ 12) }
+    ensures { answer_number result ≡ put_pixels_answer lo hi format length sector (map T.number pixels.now) }
 {
-    let refused = asked(format, 2, 11, sector);
-    if refused != 0 {
-        return refused;
-    }
+    asked(format, lo, hi, sector)?;
     let l = layout_of(sector);
-    first(
-        over_bytes(pixels, l.count, limit_of(l.width)),
-        input_short(length, pixels.len(), l.count),
-    )
-}
-
-// Inner. What refuses pixels of sixteen bits: 1, 4, 10, 2; else 0.
-pub fn wide_refusal(format: u8, length: usize, sector: u8, pixels: &[u16]) -> u8
-    ensures { result ≡ put_pixels_answer 12 12 format length sector pixels.now }
-{
-    let refused = asked(format, 12, 12, sector);
-    if refused != 0 {
-        return refused;
-    }
-    let l = layout_of(sector);
-    first(
-        over_wide(pixels, l.count, limit_of(l.width)),
-        input_short(length, pixels.len(), l.count),
-    )
+    over(pixels, l.count, limit_of(l.width))?;
+    input_short(length, pixels.len(), l.count)
 }

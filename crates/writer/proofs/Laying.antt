@@ -12,7 +12,7 @@ use Rattle.bits.proofs.Bytes.{length_bits}
 use Rattle.bits.proofs.Stretches.{put_behind}
 use Rattle.bits.proofs.Whole.{bytes_put, bits_zeros}
 use Rattle.formats.specs.Formats.{format_of, information_bits, line_bytes}
-use Rattle.formats.specs.declared.FormatAnswer.TheVariants.{Is}
+use Rattle.std.specs.Prelude.{Ok}
 use Rattle.formats.proofs.Which.{parts}
 use Rattle.formats.specs.declared.Format.{Format}
 use Rattle.scramble.specs.Register.{register_after, scrambling_bits}
@@ -62,7 +62,7 @@ unfolding on_wire information_of dummy_of
 on_wire_is f l = refl
 
 -- THE LINE LAID DOWN: o₀ before, o₁ with SYNC, o₂ with the plain line, o₃ with the dummy's zeros, o₄ with both on the wire
-pub laid : (n r : ℕ) (f : Format) (line o₀ o₁ o₂ o₃ o₄ : List ℕ) → format_of n ≡ Is f → line_bytes ≤ length line
+pub laid : (n r : ℕ) (f : Format) (line o₀ o₁ o₂ o₃ o₄ : List ℕ) → format_of n ≡ Ok f → line_bytes ≤ length line
     → r ≡ before_sync f.sync
     → bits_of o₁ ≡ take 0 (bits_of o₀) ++ scrambling_bits f.sync r ++ drop (0 + f.sync) (bits_of o₀)
     → o₂ ≡ take (f.sync / 8) o₁ ++ stretch line 0 line_bytes ++ drop (f.sync / 8 + line_bytes) o₁

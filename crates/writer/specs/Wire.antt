@@ -1,14 +1,12 @@
 -- One line on the wire, and what the call that writes it answers and leaves in its output. Assumes nothing.
-use Rattle.std.specs.Prelude.{List, ◌++◌, ◌≡◌, ℕ, ◌≤◌, length, take, drop}
+use Rattle.std.specs.Prelude.{List, ◌++◌, ◌≡◌, ℕ, ◌≤◌, length, take, drop, Result, Ok}
 use Rattle.bits.specs.Bits.{bits_of, fields_of}
-use Rattle.refusals.specs.Refusals.{first, short_of, answered, kept, Genuine}
+use Rattle.refusals.specs.declared.Refusal.{Refusal}
+use Rattle.refusals.specs.Refusals.{first, short_of, answered, kept, refuses, Answers}
 use Rattle.formats.specs.Formats.{format_of, format_refusal, information_bits, line_bytes, named_by}
 use Rattle.formats.specs.declared.Format.{Format}
-use Rattle.formats.specs.declared.FormatAnswer.TheVariants.{Is}
 use Rattle.scramble.specs.Sync.{SYNC}
 use Rattle.wire.specs.Parts.{information_of, dummy_of}
-use Rattle.writer.specs.declared.Written.{Written}
-use Rattle.writer.specs.declared.Written.TheVariants as written
 
 -- ONE LINE ON THE WIRE, of the bits of a plain line: SYNC, the information bits, the dummy
 unfoldable pub on_wire : Format → List ℕ → List ℕ
@@ -22,24 +20,12 @@ wire_bytes f line = fields_of 8 f.bytes (on_wire f (bits_of (take line_bytes lin
 unfoldable pub write_line_refusal : ℕ → ℕ → ℕ → ℕ
 write_line_refusal format lineLength given = first (format_refusal format) (first (short_of lineLength line_bytes 2) (short_of given (named_by format).bytes 3))
 
--- the paper's number and bytes for each answer
-abbrev pub written_number : Written → ℕ
-written_number (written.Put n) = 0
-written_number (written.Refused r) = r
-
-abbrev pub written_bytes : Written → ℕ
-written_bytes (written.Put n) = n
-written_bytes (written.Refused r) = 0
-
-unfoldable pub write_line_answer : ℕ → List ℕ → List ℕ → Written
-write_line_answer format line out = answered written.Refused (write_line_refusal format (length line) (length out)) (written.Put (named_by format).bytes)
+unfoldable pub write_line_answer : ℕ → List ℕ → List ℕ → Result ℕ Refusal
+write_line_answer format line out = answered refuses (write_line_refusal format (length line) (length out)) (Ok (named_by format).bytes)
 
 -- THE CONTRACT of `write_line`: the number, and the bytes of the line on the wire
-abbrev pub WriteLineOk : ℕ → List ℕ → List ℕ → Written → Type 0
-WriteLineOk format line out r =
-    (written_number r ≡ write_line_refusal format (length line) (length out))
-    × (written_bytes r ≡ kept (write_line_refusal format (length line) (length out)) 0 (named_by format).bytes)
-    × Genuine written.Refused r
+abbrev pub WriteLineOk : ℕ → List ℕ → List ℕ → Result ℕ Refusal → Type 0
+WriteLineOk format line out r = Answers (write_line_refusal format (length line) (length out)) 0 (named_by format).bytes r
 
 -- the line on the wire at the front, and the bytes past it as they were
 unfoldable pub write_line_left : ℕ → List ℕ → List ℕ → List ℕ
@@ -49,6 +35,6 @@ write_line_left format line out =
 -- what the inner function asks: one of the formats, a whole line and room for it
 pub record CanPut (f : Format) (line out : List ℕ) : Type 0 where
   pub number : ℕ
-  pub known : format_of number ≡ Is f
+  pub known : format_of number ≡ Ok f
   pub whole : line_bytes ≤ length line
   pub room : f.bytes ≤ length out

@@ -9,18 +9,13 @@ ghost use Rattle.std.specs.Prelude.{◌≡◌, ◌++◌, ◌*◌, take, drop};
 ghost use Rattle.bits.specs.Bits.{bits_of};
 ghost use Rattle.writer.specs.Wire.{on_wire, WriteLineOk, write_line_left, CanPut};
 
-use formats::{Format, FormatAnswer};
+use formats::Format;
+use refusals::Refusal;
 use scramble::Register;
-
-// The answer: the bytes of the line on the wire.
-#[derive(Clone, Copy)]
-pub enum Written {
-    Refused(u8),
-    Put(usize),
-}
 
 // Inner. SYNC, the line and the dummy, plain as they are, and then line and dummy put on the wire in one go: the scrambling bits
 // and the groups of eight go on through both.
+#[tactic(auto, using(sync::proofs::Opening::before_small))]
 fn put_line(f: Format, line: &[u8], out: &mut [u8])
     requires { CanPut f line.now out.old }
     ensures { bits_of out.new ≡ on_wire f (bits_of (take 44356 line.now)) ++ drop (f.bytes * 8) (bits_of out.old) }
@@ -40,22 +35,12 @@ fn put_line(f: Format, line: &[u8], out: &mut [u8])
 
 // One plain line, the first 44,356 bytes of line, put on the wire at the front of out: 45,606 bytes in format 1 and 49,500
 // in format 2; the bytes of out past them stay. Refused with 1 for the format, 2 for a short line, 3 for a short output.
-pub fn write_line(format: u8, line: &[u8], out: &mut [u8]) -> Written
+pub fn write_line(format: u8, line: &[u8], out: &mut [u8]) -> Result<usize, Refusal>
     ensures { WriteLineOk format line.now out.old result × (out.new ≡ write_line_left format line.now out.old) }
 {
-    match Format::of(format) {
-        FormatAnswer::Refused(number) => Written::Refused(number),
-        FormatAnswer::Is(f) => {
-            let bytes = f.bytes;
-            let refused = refusals::first(
-                refusals::short(line.len(), Format::LINE_BYTES, refusals::SHORT_INPUT),
-                refusals::short(out.len(), bytes, refusals::SHORT_OUTPUT),
-            );
-            if refused != 0 {
-                return Written::Refused(refused);
-            }
-            put_line(f, line, out);
-            Written::Put(bytes)
-        }
-    }
+    let f = Format::of(format)?;
+    refusals::enough(line.len(), Format::LINE_BYTES, Refusal::ShortInput)?;
+    refusals::enough(out.len(), f.bytes, Refusal::ShortOutput)?;
+    put_line(f, line, out);
+    Ok(f.bytes)
 }

@@ -139,14 +139,35 @@ fn in_order(file: &str, asked: &[Named], found: &[Constant], out: &mut Vec<Strin
     }
 }
 
-/// The refusals of crate `refusals`, in the order of testing.
+/// `OutOfRange` is `OUT_OF_RANGE` in C and in Rust.
+fn constant_name(variant: &str) -> String {
+    let mut out = String::new();
+    let mut was_small = false;
+    for c in variant.chars() {
+        if c.is_ascii_uppercase() && was_small {
+            out.push('_');
+        }
+        was_small = c.is_ascii_lowercase();
+        out.push(c.to_ascii_uppercase());
+    }
+    out
+}
+
+/// The variants of `enum Refusal` of crate `refusals`, `Format = 1`, in the
+/// order of testing.
 pub fn refusals(tree: &Tree) -> Result<Vec<Named>, String> {
     let mut out = Vec::new();
-    for found in constants(NUMBERS, tree.text(NUMBERS)?, "")? {
-        let (name, at) = (found.name, found.at);
-        let number = found.value;
-        let number = number.ok_or_else(|| format!("{at}: {name} is no plain number"))?;
+    let tokens = tokens(tree.text(NUMBERS)?);
+    let word = |i: usize| tokens.get(i).map_or("", |t| t.text.as_str());
+    let begin = (0..tokens.len()).find(|i| word(*i) == "enum" && word(i + 1) == "Refusal");
+    let mut i = begin.ok_or_else(|| format!("{NUMBERS}: there is no `enum Refusal`"))? + 3;
+    while word(i) != "}" {
+        let (variant, at) = (word(i), format!("{NUMBERS}:{}", tokens[i].line));
+        let number = number(word(i + 2)).filter(|_| word(i + 1) == "=" && word(i + 3) == ",");
+        let number = number.ok_or_else(|| format!("{at}: {variant} has no plain number"))?;
+        let name = constant_name(variant);
         out.push(Named { name, number, at });
+        i += 4;
     }
     let order = order(tree.text(ORDER)?)?;
     let numbers: Vec<u64> = out.iter().map(|one| one.number).collect();
@@ -181,7 +202,7 @@ pub fn order(text: &str) -> Result<Vec<u64>, String> {
     Err(format!("{ORDER}: `order` is not read"))
 }
 
-/// The rows `| 1 | `FORMAT` | .. |` of the table of refusals.
+/// The rows `| 1 | `Format` | .. |` of the table of refusals.
 pub fn table(text: &str) -> Vec<Constant> {
     let mut out = Vec::new();
     for (i, line) in text.lines().enumerate() {
@@ -191,7 +212,7 @@ pub fn table(text: &str) -> Vec<Constant> {
             continue;
         }
         out.push(Constant {
-            name: cells.get(2).map_or("", |c| c.trim_matches('`')).to_string(),
+            name: constant_name(cells.get(2).map_or("", |c| c.trim_matches('`'))),
             value,
             at: format!("{TABLE}:{}", i + 1),
         });

@@ -1,42 +1,23 @@
 -- `desk_whole::lowest` meets its contract. Assumes nothing.
-use mathlib.Core.Path.{◌≡◌, sym, ap, ◌∙◌}
-use Prim.Native.Nat.{ℕ, ◌+◌, ◌-◌}
-use native.Mathlib.Nat.{sub-zero}
+use mathlib.Core.Path.{refl, sym, ap, ◌∙◌}
 use native.Mathlib.Omega.{arith}
 use borrow.Author.Rules.{rules}
-use Rattle.desk_whole.proofs.LowestFree.{lowest_here, lowest_on, lowest_none}
-use Rattle.desk_record.specs.Slots.{slot_of}
-use Rattle.desk_record.specs.Desks.{lowest_from}
+use borrow.Author.Tests.{tests}
+use Prim.Native.Nat.{ℕ}
+use Rattle.std.specs.Prelude.{Option}
+use Rattle.std.specs.Option.{unwrap_or}
+use Rattle.std.proofs.lemmas.Iterator.{YieldsList-from_range}
+use Rattle.std.proofs.lemmas.Iterator.Search.{find_from_yields_List}
+use Rattle.std.proofs.lemmas.Iterator.Adapters.{option_map_id}
+use Rattle.desk_record.specs.Slots.{slot_of, is_free}
+use Rattle.desk_whole.proofs.Chains.{lowest_found}
 use Rattle.desk_whole.proofs.lowest.Goals as goal
 
-pub loop-i-init : goal.loop-i-init
-loop-i-init c = (search rules, rw sub-zero)
-
-pub offset_bounds-d-i : goal.offset_bounds-d-i
-offset_bounds-d-i c = omega arith
-
-pub bounds-d-i : goal.bounds-d-i
-bounds-d-i c = omega arith
-
-pub returns-then-free : goal.returns-then-free
-returns-then-free c =
-    sym (c.loop-i.invariant.1 ∙ lowest_here _ _ c.loop-i.i (omega arith) (sym c.free.ensures ∙ c.if-free.true))
-
-pub overflow_add-i : goal.overflow_add-i
-overflow_add-i c = omega arith
-
-pub loop-i-smaller : goal.loop-i-smaller
-loop-i-smaller c = omega arith
-
-pub loop-i-preserved : goal.loop-i-preserved
-loop-i-preserved c =
-    let d = c.args.d in
-    let z : d.count - c.loop-i.i - 1 ≡ d.count - (c.loop-i.i + 1) = omega arith in (
-      omega arith,
-      c.loop-i.invariant.1
-          ∙ lowest_on _ _ c.loop-i.i (omega arith) (sym c.free.ensures ∙ c.if-free.false)
-          ∙ ap (λ (k : ℕ). lowest_from (slot_of d) k (c.loop-i.i + 1)) z,
-    )
-
 pub returns : goal.returns
-returns c = sym (c.loop-i.invariant.1 ∙ lowest_none _ _ _ (omega arith))
+returns c =
+    let d = c.args.d in
+    c.unwrap_or.ensures
+    ∙ ap (λ (o : Option ℕ). unwrap_or o d.count)
+    (sym (option_map_id c.find.result)
+    ∙ find_from_yields_List (λ (i : ℕ). is_free (slot_of d i)) _ _ c.find.result c.find.ensures.ran (YieldsList-from_range 0 d.count d.count refl (omega arith)) (λ x b q k. search (rules, tests)))
+    ∙ lowest_found (slot_of d) d.count 0 d.count (omega arith)

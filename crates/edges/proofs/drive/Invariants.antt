@@ -1,9 +1,6 @@
--- `edges::drive` ends, and stays within the recording. Assumes nothing.
+-- What `edges::drive` has still to read is a part of the recording. Assumes nothing.
 use Rattle.std.proofs.Common.{◌≤◌, length}
 use Rattle.edges.proofs.drive.Given as goal
 
-abbrev pub invariant-loop-turns : goal.invariant-loop-turns
-invariant-loop-turns l = l.r.at ≤ length l.rec
-
-abbrev pub decreases-loop-turns : goal.decreases-loop-turns
-decreases-loop-turns l = l.turns
+abbrev pub invariant-loop : goal.invariant-loop
+invariant-loop l = length l.rest ≤ length l.rec

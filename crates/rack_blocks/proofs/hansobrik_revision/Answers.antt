@@ -9,4 +9,4 @@ use Rattle.rack_blocks.proofs.hansobrik_revision.Goals as goal
 pub returns : goal.returns
 returns c =
     let a = c.args in
-    c.revision_given.ensures ∙ ap revision_given (revision_is _ _ _ _ _ c.revision.ensures ∙ ap (λ (x : Assembly). revision_answer a.format x a.number a.block.now) c.handed.ensures)
+    c.from-2.ensures ∙ ap revision_given (revision_is _ _ _ _ _ c.revision.ensures ∙ ap (λ (x : Assembly). revision_answer a.format x a.number a.block.now) c.from.ensures)

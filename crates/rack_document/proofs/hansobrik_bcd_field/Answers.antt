@@ -5,4 +5,4 @@ use Rattle.rack_number.specs.Number.{bcd_given}
 use Rattle.rack_document.proofs.hansobrik_bcd_field.Goals as goal
 
 pub returns : goal.returns
-returns c = c.bcd_given.ensures ∙ ap bcd_given (bcd_field_is _ _ _ _ _ c.bcd_field.ensures)
+returns c = c.into.ensures ∙ ap bcd_given (bcd_field_is _ _ _ _ _ c.bcd_field.ensures)

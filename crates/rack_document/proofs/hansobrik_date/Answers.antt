@@ -5,4 +5,4 @@ use Rattle.rack_document.specs.Documentation.{date_given}
 use Rattle.rack_document.proofs.hansobrik_date.Goals as goal
 
 pub returns : goal.returns
-returns c = c.date_given.ensures ∙ ap date_given (date_is _ _ _ c.date.ensures)
+returns c = c.into.ensures ∙ ap date_given (date_is _ _ _ c.date.ensures)

@@ -5,4 +5,4 @@ use Rattle.rack_number.specs.Number.{float_given}
 use Rattle.rack_document.proofs.hansobrik_f64_field.Goals as goal
 
 pub returns : goal.returns
-returns c = c.float_given.ensures ∙ ap float_given (f64_field_is _ _ _ _ _ _ c.f64_field.ensures)
+returns c = c.into.ensures ∙ ap float_given (f64_field_is _ _ _ _ _ _ c.f64_field.ensures)

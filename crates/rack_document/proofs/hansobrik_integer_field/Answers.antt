@@ -5,4 +5,4 @@ use Rattle.rack_number.specs.Number.{integer_given}
 use Rattle.rack_document.proofs.hansobrik_integer_field.Goals as goal
 
 pub returns : goal.returns
-returns c = c.integer_given.ensures ∙ ap integer_given (integer_field_is _ _ _ _ _ c.integer_field.ensures)
+returns c = c.into.ensures ∙ ap integer_given (integer_field_is _ _ _ _ _ c.integer_field.ensures)

@@ -5,4 +5,4 @@ use Rattle.rack_document.specs.Documentation.{lines_given}
 use Rattle.rack_document.proofs.hansobrik_line_numbers.Goals as goal
 
 pub returns : goal.returns
-returns c = c.lines_given.ensures ∙ ap lines_given (line_numbers_is _ _ _ c.line_numbers.ensures)
+returns c = c.into.ensures ∙ ap lines_given (line_numbers_is _ _ _ c.line_numbers.ensures)

@@ -5,4 +5,4 @@ use Rattle.rack_number.specs.Number.{real_given}
 use Rattle.rack_document.proofs.hansobrik_real_field.Goals as goal
 
 pub returns : goal.returns
-returns c = c.real_given.ensures ∙ ap real_given (real_field_is _ _ _ _ _ _ c.real_field.ensures)
+returns c = c.into.ensures ∙ ap real_given (real_field_is _ _ _ _ _ _ c.real_field.ensures)

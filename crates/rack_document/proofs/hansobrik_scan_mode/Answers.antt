@@ -5,4 +5,4 @@ use Rattle.rack_document.specs.Documentation.{scan_given}
 use Rattle.rack_document.proofs.hansobrik_scan_mode.Goals as goal
 
 pub returns : goal.returns
-returns c = c.scan_given.ensures ∙ ap scan_given (scan_mode_is _ _ _ c.scan_mode.ensures)
+returns c = c.into.ensures ∙ ap scan_given (scan_mode_is _ _ _ c.scan_mode.ensures)

@@ -5,4 +5,4 @@ use Rattle.rack_document.specs.Documentation.{scanner_given}
 use Rattle.rack_document.proofs.hansobrik_scanner_select.Goals as goal
 
 pub returns : goal.returns
-returns c = c.scanner_given.ensures ∙ ap scanner_given (scanner_select_is _ _ _ c.scanner_select.ensures)
+returns c = c.into.ensures ∙ ap scanner_given (scanner_select_is _ _ _ c.scanner_select.ensures)

@@ -5,4 +5,4 @@ use Rattle.rack_document.specs.Documentation.{segment_given}
 use Rattle.rack_document.proofs.hansobrik_sub_commutation.Goals as goal
 
 pub returns : goal.returns
-returns c = c.segment_given.ensures ∙ ap segment_given (sub_commutation_is _ _ _ c.sub_commutation.ensures)
+returns c = c.into.ensures ∙ ap segment_given (sub_commutation_is _ _ _ c.sub_commutation.ensures)

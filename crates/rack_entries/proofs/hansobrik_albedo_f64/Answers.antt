@@ -9,4 +9,4 @@ use Rattle.rack_entries.proofs.hansobrik_albedo_f64.Goals as goal
 pub returns : goal.returns
 returns c =
     let a = c.args in
-    c.level_f64_given.ensures ∙ ap level_f64_given (level_f64_is _ _ _ _ _ _ _ c.albedo_f64.ensures ∙ ap (λ (x : Assembly). level_f64_answer albedos a.format x a.block.now a.channel a.level) c.handed.ensures)
+    c.from-2.ensures ∙ ap level_f64_given (level_f64_is _ _ _ _ _ _ _ c.albedo_f64.ensures ∙ ap (λ (x : Assembly). level_f64_answer albedos a.format x a.block.now a.channel a.level) c.from.ensures)

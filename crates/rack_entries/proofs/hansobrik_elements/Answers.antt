@@ -9,4 +9,4 @@ use Rattle.rack_entries.proofs.hansobrik_elements.Goals as goal
 pub returns : goal.returns
 returns c =
     let a = c.args in
-    c.orbit_given.ensures ∙ ap orbit_given (elements_is _ _ _ _ c.elements.ensures ∙ ap (λ (x : Assembly). elements_answer a.format x.marks a.block.now) c.handed.ensures)
+    c.from-2.ensures ∙ ap orbit_given (elements_is _ _ _ _ c.elements.ensures ∙ ap (λ (x : Assembly). elements_answer a.format x.marks a.block.now) c.from.ensures)

@@ -9,4 +9,4 @@ use Rattle.rack_entries.proofs.hansobrik_mapping.Goals as goal
 pub returns : goal.returns
 returns c =
     let a = c.args in
-    c.grid_given.ensures ∙ ap grid_given (mapping_is _ _ _ _ _ _ c.mapping.ensures ∙ ap (λ (x : Assembly). mapping_answer a.format x.marks a.block.now a.row a.column) c.handed.ensures)
+    c.from-2.ensures ∙ ap grid_given (mapping_is _ _ _ _ _ _ c.mapping.ensures ∙ ap (λ (x : Assembly). mapping_answer a.format x.marks a.block.now a.row a.column) c.from.ensures)

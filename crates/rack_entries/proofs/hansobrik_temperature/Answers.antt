@@ -9,4 +9,4 @@ use Rattle.rack_entries.proofs.hansobrik_temperature.Goals as goal
 pub returns : goal.returns
 returns c =
     let a = c.args in
-    c.level_given.ensures ∙ ap level_given (level_is _ _ _ _ _ _ _ c.temperature.ensures ∙ ap (λ (x : Assembly). level_answer temperatures a.format x a.block.now a.channel a.level) c.handed.ensures)
+    c.from-2.ensures ∙ ap level_given (level_is _ _ _ _ _ _ _ c.temperature.ensures ∙ ap (λ (x : Assembly). level_answer temperatures a.format x a.block.now a.channel a.level) c.from.ensures)

@@ -5,4 +5,4 @@ use Rattle.rack_ground.specs.Ground.{format_given}
 use Rattle.rack_ground.proofs.hansobrik_format.Goals as goal
 
 pub returns : goal.returns
-returns c = c.format_given.ensures ∙ ap format_given (format_is _ _ c.of.ensures)
+returns c = c.from.ensures ∙ ap format_given (format_is _ _ c.of.ensures)

@@ -5,4 +5,5 @@ use Rattle.rack_ground.specs.Ground.{sync_given}
 use Rattle.rack_ground.proofs.hansobrik_put_sync.Goals as goal
 
 pub returns : goal.returns
-returns c = (c.sync_given.ensures ∙ ap sync_given (put_sync_is _ _ _ c.put_sync.ensures.0), c.put_sync.ensures.1)
+unfolding sync_given
+returns c = (c.from.ensures ∙ ap sync_given (put_sync_is _ _ _ c.put_sync.ensures.0), c.put_sync.ensures.1)

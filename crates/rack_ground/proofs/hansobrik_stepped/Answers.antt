@@ -6,5 +6,5 @@ use Rattle.rack_ground.proofs.hansobrik_stepped.Goals as goal
 
 pub returns : goal.returns
 returns c =
-    let said = c.stepped-s.ensures in
+    let said = c.stepped-answer.ensures in
     c.step_given.ensures ∙ ap₂ step_given (step_is _ _ said.0) said.1

@@ -5,4 +5,4 @@ use Rattle.rack_number.specs.Number.{bcd_given}
 use Rattle.rack_number.proofs.hansobrik_read_bcd.Goals as goal
 
 pub returns : goal.returns
-returns c = c.bcd_given.ensures ∙ ap bcd_given (read_bcd_is _ _ _ c.read_bcd.ensures)
+returns c = c.into.ensures ∙ ap bcd_given (read_bcd_is _ _ _ c.read_bcd.ensures)

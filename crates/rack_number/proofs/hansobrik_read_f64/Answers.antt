@@ -5,4 +5,4 @@ use Rattle.rack_number.specs.Number.{float_given}
 use Rattle.rack_number.proofs.hansobrik_read_f64.Goals as goal
 
 pub returns : goal.returns
-returns c = c.float_given.ensures ∙ ap float_given (read_f64_is _ _ _ _ c.read_f64.ensures)
+returns c = c.into.ensures ∙ ap float_given (read_f64_is _ _ _ _ c.read_f64.ensures)

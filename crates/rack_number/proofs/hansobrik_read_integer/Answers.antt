@@ -5,4 +5,4 @@ use Rattle.rack_number.specs.Number.{integer_given}
 use Rattle.rack_number.proofs.hansobrik_read_integer.Goals as goal
 
 pub returns : goal.returns
-returns c = c.integer_given.ensures ∙ ap integer_given (read_integer_is _ _ _ c.read_integer.ensures)
+returns c = c.into.ensures ∙ ap integer_given (read_integer_is _ _ _ c.read_integer.ensures)

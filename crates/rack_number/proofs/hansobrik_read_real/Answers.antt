@@ -5,4 +5,4 @@ use Rattle.rack_number.specs.Number.{real_given}
 use Rattle.rack_number.proofs.hansobrik_read_real.Goals as goal
 
 pub returns : goal.returns
-returns c = c.real_given.ensures ∙ ap real_given (read_real_is _ _ _ _ c.read_real.ensures)
+returns c = c.into.ensures ∙ ap real_given (read_real_is _ _ _ _ c.read_real.ensures)

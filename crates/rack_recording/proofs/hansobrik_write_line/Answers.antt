@@ -5,4 +5,5 @@ use Rattle.rack_recording.specs.Recording.{written_given}
 use Rattle.rack_recording.proofs.hansobrik_write_line.Goals as goal
 
 pub returns : goal.returns
-returns c = (c.written_given.ensures ∙ ap written_given (write_line_is _ _ _ _ c.write_line.ensures.0), c.write_line.ensures.1)
+unfolding written_given
+returns c = (c.from.ensures ∙ ap written_given (write_line_is _ _ _ _ c.write_line.ensures.0), c.write_line.ensures.1)

@@ -1,22 +1,20 @@
 -- `rack_report::marked` meets its contract. Assumes nothing.
-use mathlib.Core.Path.{sym}
-use mathlib.Core.Bool.{true}
-use native.Mathlib.Omega.{arith}
-use borrow.Author.Tests.{lt-leb, le-leb}
-use Rattle.report_record.proofs.Rows.{all_none, all_turn, all_done, all_fails}
-use Rattle.rack_report.specs.PassReport.{marked, pixels_at}
+use mathlib.Core.Path.{◌≡◌, ◌∙◌}
+use borrow.Author.Rules.{rules}
+use borrow.Author.Tests.{tests}
+use lib.Dec.{leb}
+use lib.ListN.{length}
+use Rattle.std.proofs.lemmas.Iterator.{YieldsList-from_slice}
+use Rattle.std.proofs.lemmas.Iterator.Search.{all_from_yields_List}
+use Rattle.report_record.proofs.Rows.{all_list}
+use Rattle.rack_report.specs.declared.ChannelTally.{ChannelTally}
+use Rattle.rack_report.specs.PassReport.{no_pixels, marked}
 use Rattle.rack_report.proofs.marked.Goals as goal
-
-pub loop-i-init : goal.loop-i-init
-loop-i-init c = (omega arith, all_none _)
-
-pub returns-then-p-i-gt1 : goal.returns-then-p-i-gt1
-unfolding marked
-returns-then-p-i-gt1 c = sym (all_fails _ 4 c.loop-i.i (omega arith) (lt-leb (pixels_at c.args.p c.loop-i.i).present 1 (omega (arith, c.if-p-i-gt1.true))))
-
-pub loop-i-preserved : goal.loop-i-preserved
-loop-i-preserved c = (omega arith, all_turn _ c.loop-i.i c.loop-i.invariant.1 (le-leb (pixels_at c.args.p c.loop-i.i).present 1 (omega (arith, c.if-p-i-gt1.false))))
 
 pub returns : goal.returns
 unfolding marked
-returns c = sym (all_done _ 4 _ c.loop-i.invariant.1 (omega arith))
+returns c =
+    let xs = c.args.p.channels in
+    let long : length xs ≡ 4 = search rules in
+    all_from_yields_List (λ (x : ChannelTally). leb x.present 1) _ _ c.all.result c.all.ensures.ran (YieldsList-from_slice xs c.iter.ensures.rest) (λ x b q k. search (rules, tests))
+    ∙ all_list (λ (x : ChannelTally). leb x.present 1) xs 4 no_pixels long

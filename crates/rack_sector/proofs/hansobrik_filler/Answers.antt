@@ -5,4 +5,5 @@ use Rattle.rack_sector.specs.Sector.{filler_given}
 use Rattle.rack_sector.proofs.hansobrik_filler.Goals as goal
 
 pub returns : goal.returns
-returns c = c.filler_given.ensures ∙ ap filler_given (filler_is _ _ _ _ c.filler.ensures)
+unfolding filler_given
+returns c = c.from.ensures ∙ ap filler_given (filler_is _ _ _ _ c.filler.ensures)

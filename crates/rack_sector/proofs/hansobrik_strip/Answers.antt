@@ -5,6 +5,4 @@ use Rattle.rack_sector.specs.Sector.{strip_given}
 use Rattle.rack_sector.proofs.hansobrik_strip.Goals as goal
 
 pub returns : goal.returns
-returns c =
-    let made = c.strip.ensures in
-    (c.strip_given.ensures ∙ ap strip_given (strip_is _ _ _ _ made.0), made.1)
+returns c = (c.from.ensures ∙ ap strip_given (strip_is _ _ _ _ c.strip.ensures.0), c.strip.ensures.1)

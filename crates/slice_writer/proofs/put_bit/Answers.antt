@@ -3,13 +3,11 @@ use mathlib.Core.Path.{ap, ◌∙◌}
 use Prim.Native.Nat.{ℕ, ◌-◌, ◌*◌, ◌/◌, ◌%◌, ◌^◌}
 use native.Mathlib.Omega.{arith}
 use lib.ListN.{get_or, set}
-use lib.Bits.{bit_and, bit_or, and_mask, and_le_r}
+use lib.Bits.{bit_and, bit_or, and_mask}
 use Rattle.bits.specs.Bits.{bits_of}
 use Rattle.bits.proofs.Store.{byte_store, bits_set}
+use borrow.Author.Rules.{rules}
 use Rattle.slice_writer.proofs.put_bit.Goals as goal
-
-pub overflow_sub-low : goal.overflow_sub-low
-overflow_sub-low c = omega (arith, and_le_r c.args.at 7)
 
 pub returns : goal.returns
 returns c =
@@ -19,5 +17,5 @@ returns c =
     let x = get_or s (at / 8) 0 in
     ap (λ (k : ℕ). bits_of (set s (at / 8) (bit_or (bit_and x (255 - 1 * 2 ^ (7 - k) % 256)) (b * 2 ^ (7 - k) % 256)))) (and_mask at 3)
     ∙ ap (λ (y : ℕ). bits_of (set s (at / 8) y))
-    (byte_store x b (at % 8) (c.slice_known-1.given (at / 8)).fits c.requires.1 (omega arith))
+    (byte_store x b (at % 8) (search rules) c.requires.1 (omega arith))
     ∙ bits_set s at b c.requires.0 c.requires.1

@@ -1,13 +1,8 @@
 -- `slice_writer::put_field` meets its contract. Assumes nothing.
 use mathlib.Core.Path.{◌≡◌}
-use Prim.Native.Nat.{◌-◌, ◌≤◌}
-use lib.ListN.{length}
 use lib.Seq.{paste}
 use Rattle.bits.specs.Bits.{bits_of, digits}
 use Rattle.slice_writer.proofs.put_field.Given as goal
 
 abbrev pub invariant-loop-i : goal.invariant-loop-i
-invariant-loop-i l = (l.i ≤ l.width) × (bits_of l.s ≡ paste (bits_of l.initial.s) l.at (digits l.width l.v) l.i) × (length l.s ≡ length l.initial.s)
-
-abbrev pub decreases-loop-i : goal.decreases-loop-i
-decreases-loop-i l = l.width - l.i
+invariant-loop-i l = (bits_of l.s ≡ paste (bits_of l.initial.s) l.at (digits l.width l.v) l.i)

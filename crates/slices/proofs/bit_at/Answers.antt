@@ -1,14 +1,10 @@
 -- `slices::bit_at` meets its contract: `at >> 3` is `at / 8` by computation, and `at & 7` is `at % 8` by `and_mask`. Assumes nothing.
 use mathlib.Core.Path.{sym, ap, ◌∙◌}
 use Prim.Native.Nat.{ℕ, ◌-◌, ◌/◌, ◌%◌, ◌^◌}
-use native.Mathlib.Omega.{arith}
-use lib.Bits.{bit_and, and_mask, and_le_r}
+use lib.Bits.{bit_and, and_mask}
 use lib.ListN.{get_or}
 use Rattle.bits.proofs.Bytes.{bit_law, bit_lt}
 use Rattle.slices.proofs.bit_at.Goals as goal
-
-pub overflow_sub-result : goal.overflow_sub-result
-overflow_sub-result c = omega (arith, and_le_r c.args.at 7)
 
 pub returns : goal.returns
 returns c =

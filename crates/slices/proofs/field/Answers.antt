@@ -1,29 +1,9 @@
 -- `slices::field` meets its contract: the shifts, ors and masks are `window`'s arithmetic. Assumes nothing.
 use mathlib.Core.Path.{◌≡◌, sym, ap₂, ◌∙◌}
 use Prim.Native.Nat.{ℕ, ◌+◌, ◌-◌, ◌*◌, ◌/◌, ◌%◌, ◌^◌}
-use native.Mathlib.Nat.{lt_of_lt_of_le}
-use native.Mathlib.Omega.{arith}
-use lib.Pow.{pow_pos, pow_mono}
-use lib.Bits.{bit_and, bit_or, and_mask, and_le_r}
-use Rattle.bits.proofs.Window.{three, window, three_bytes, one_shl, masked, masked_lt}
+use lib.Bits.{bit_and, bit_or, and_mask}
+use Rattle.bits.proofs.Window.{three, window, three_bytes, masked, masked_lt}
 use Rattle.slices.proofs.field.Goals as goal
-
-pub overflow_sub-low : goal.overflow_sub-low
-overflow_sub-low c = omega (arith, and_le_r c.args.at 7)
-
-pub overflow_sub-low-2 : goal.overflow_sub-low-2
-overflow_sub-low-2 c = omega (arith, and_le_r c.args.at 7)
-
-pub overflow_sub-mask : goal.overflow_sub-mask
-overflow_sub-mask c =
-    let w = c.args.width in
-    omega (arith, one_shl w c.requires.1, pow_pos w)
-
-pub overflow_cast-result-2 : goal.overflow_cast-result-2
-overflow_cast-result-2 c =
-    let w = c.args.width in
-    let n = bit_or (bit_or (c.byte_or_zero.result * 2 ^ 16 % 2 ^ 32) (c.byte_or_zero-2.result * 2 ^ 8 % 2 ^ 32)) c.byte_or_zero-3.result in
-    record { fits = lt_of_lt_of_le (masked_lt (n / 2 ^ (24 - bit_and c.args.at 7 - w)) w c.requires.1) (pow_mono {i = w} {j = 16} c.requires.1) }
 
 pub returns : goal.returns
 returns c =

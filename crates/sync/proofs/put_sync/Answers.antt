@@ -1,36 +1,38 @@
 -- `sync::put_sync` meets its contract. Assumes nothing.
-use mathlib.Core.Path.{sym, ◌∙◌}
+use mathlib.Core.Path.{sym}
 use native.Mathlib.Omega.{arith}
+use Rattle.std.specs.Prelude.{Ok}
 use Rattle.bits.proofs.Below.{below_all}
 use Rattle.formats.proofs.Settled.{format_is}
 use Rattle.formats.proofs.Which.{parts}
+use Rattle.refusals.proofs.Lent.{lent_err}
+use Rattle.refusals.proofs.Numbers.{refused_first}
 use Rattle.refusals.proofs.Words.{enough}
+use Rattle.sync.specs.Put.{put_sync_refusal, put_sync_left}
 use Rattle.sync.proofs.Opening.{before_small}
-use Rattle.sync.proofs.Putting.{sync_refused, sync_short, sync_done}
+use Rattle.sync.proofs.Putting.{sync_number, sync_done}
 use Rattle.sync.proofs.put_sync.Goals as goal
 
-pub returns-then-refused-ne0 : goal.returns-then-refused-ne0
-returns-then-refused-ne0 c =
-    let args = c.args in
-    sync_short args.format args.out.now _ (sym (format_is _ _ c.of.ensures) ∙ c.in-Is.is) _ c.short-refused.ensures c.if-refused-ne0.true
+pub returns-in_err-f : goal.returns-in_err-f
+unfolding put_sync_refusal put_sync_left
+returns-in_err-f c = lent_err _ _ _ _ _ _ _ c.from_residual.ensures.1 (refused_first _ _ _ c.in_err-f.ensures.0)
+
+pub returns-in_err-enough : goal.returns-in_err-enough
+unfolding put_sync_left
+returns-in_err-enough c =
+    let number = sync_number c.args.format c.args.out.now c.in_ok-f.f c.in_ok-f.ensures _ c.in_err-enough.ensures in
+    lent_err _ _ _ _ _ _ _ c.from_residual-in_err-enough.ensures.1 number
 
 pub put_scrambling-requires : goal.put_scrambling-requires
 put_scrambling-requires c =
-    let args = c.args in
-    let facts = parts args.format _ (sym (format_is _ _ c.of.ensures) ∙ c.in-Is.is) in
-    let room = enough _ _ 3 (λ z. omega arith) (sym c.short-refused.ensures ∙ c.if-refused-ne0.false) in
+    let facts = parts c.args.format c.in_ok-f.f (sym (format_is c.args.format (Ok c.in_ok-f.f) c.in_ok-f.ensures)) in
+    let room = enough _ _ 3 (λ z. omega arith) (sym c.in_ok-enough.ensures) in
     (omega (arith, facts.sync_whole, room), omega (arith, facts.sync_whole, facts.all, facts.small), rw c.before_sync.ensures (before_small _))
 
-pub returns-in-Refused : goal.returns-in-Refused
-returns-in-Refused c =
-    let args = c.args in
-    sync_refused args.format args.out.now _ (sym (format_is _ _ c.of.ensures) ∙ c.in-Refused.is)
-
-pub returns-else-refused-ne0 : goal.returns-else-refused-ne0
-returns-else-refused-ne0 c =
-    let args = c.args in
-    sync_done args.format args.out.now _ (sym (format_is _ _ c.of.ensures) ∙ c.in-Is.is) _ c.short-refused.ensures _ _ c.if-refused-ne0.false
-    (below_all 256 args.out.now (λ i. (c.slice_known-1.given i).fits))
-    (below_all 256 _ (λ i. (c.slice_known-in-Is-1.given i).fits))
+pub returns : goal.returns
+returns c =
+    sync_done c.args.format c.args.out.now c.in_ok-f.f c.in_ok-f.ensures _ _ c.in_ok-enough.ensures
+    (below_all 256 c.args.out.now (λ i. (c.slice_known-1.given i).fits))
+    (below_all 256 _ (λ i. (c.slice_known-2-1.given i).fits))
     c.before_sync.ensures
     c.put_scrambling.ensures.0

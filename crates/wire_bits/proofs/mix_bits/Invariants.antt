@@ -1,8 +1,6 @@
 -- `wire_bits::mix_bits` meets its contract: what is to stand in the part is known before the loop, and each turn puts one bit
 -- of it. Assumes nothing.
 use mathlib.Core.Path.{◌≡◌}
-use Prim.Native.Nat.{◌-◌, ◌≤◌}
-use lib.ListN.{length}
 use lib.Seq.{paste}
 use Rattle.bits.specs.Bits.{bits_of}
 use Rattle.scramble.specs.Register.{register_after}
@@ -10,10 +8,5 @@ use Rattle.wire_bits.proofs.Target.{target}
 use Rattle.wire_bits.proofs.mix_bits.Given as goal
 
 abbrev pub invariant-loop-i : goal.invariant-loop-i
-invariant-loop-i l = (l.i ≤ l.count)
-    × (bits_of l.s ≡ paste (bits_of l.initial.s) l.from (target l.initial.s l.from l.count l.place l.initial.reg.bits) l.i)
-    × (length l.s ≡ length l.initial.s)
+invariant-loop-i l = (bits_of l.s ≡ paste (bits_of l.initial.s) l.from (target l.initial.s l.from l.count l.place l.initial.reg.bits) l.i)
     × (l.reg.bits ≡ register_after l.i l.initial.reg.bits)
-
-abbrev pub decreases-loop-i : goal.decreases-loop-i
-decreases-loop-i l = l.count - l.i

@@ -1,10 +1,6 @@
 -- `wire_steps::first_word` meets its contract. Assumes nothing.
-use Prim.Native.Nat.{◌-◌, ◌≤◌}
 use Rattle.wire_steps.proofs.Shifts.{Ahead}
 use Rattle.wire_steps.proofs.first_word.Given as goal
 
 abbrev pub invariant-loop-i : goal.invariant-loop-i
-invariant-loop-i l = (l.i ≤ 8) × Ahead l.initial.reg.bits l.i l.key l.reg.bits
-
-abbrev pub decreases-loop-i : goal.decreases-loop-i
-decreases-loop-i l = 8 - l.i
+invariant-loop-i l = Ahead l.initial.reg.bits l.i l.key l.reg.bits

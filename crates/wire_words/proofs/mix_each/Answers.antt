@@ -1,23 +1,16 @@
 -- `wire_words::mix_each` meets its contract. Assumes nothing.
-use mathlib.Core.Path.{◌≡◌}
 use Prim.Native.Nat.{◌+◌, ◌<◌}
 use native.Mathlib.Omega.{arith}
 use lib.ListN.{length}
 use Rattle.runs.proofs.Puts.{mixed_none, mixed_byte}
-use borrow.Author.Rules.{rules}
 use Rattle.wire_words.proofs.mix_each.Goals as goal
 
 pub loop-i-init : goal.loop-i-init
 loop-i-init c =
     let args = c.args in
-    (search rules, mixed_none args.s.now args.first args.place args.r.bits)
+    mixed_none args.s.now args.first args.place args.r.bits
 
 pub loop-i-preserved : goal.loop-i-preserved
 loop-i-preserved c =
     let inside : c.args.first + c.loop-i.i < length c.args.s.now = omega arith in
-    (search rules, mixed_byte c.mix_byte-m.result.byte c.mix_byte-m.result.next.bits c.loop-i.invariant.1 inside c.mix_byte-m.ensures.0 c.mix_byte-m.ensures.1)
-
-pub returns : goal.returns
-returns c =
-    let past : c.loop-i.i ≡ c.args.n = omega arith in
-    rw past at c.loop-i.invariant.1
+    mixed_byte c.mix_byte-m.result.byte c.mix_byte-m.result.next.bits c.loop-i.invariant inside c.mix_byte-m.ensures.0 c.mix_byte-m.ensures.1

@@ -470,8 +470,8 @@ pub const EDITS: &[Edit] = &[
     texts(
         &[(
             NUMBERS,
-            "pub const RANGE: u8 = 10;",
-            "pub const RANGE: u8 = 99;",
+            "    Range = 10,",
+            "    Range = 99,",
         )],
         &[NUMBERS, "99", ORDER],
     ),
@@ -480,14 +480,14 @@ pub const EDITS: &[Edit] = &[
         &["order of testing is [13, 1,", ORDER],
     ),
     texts(
-        &[(TABLE, "| 12 | `STATE` |", "| 99 | `STATE` |")],
+        &[(TABLE, "| 12 | `State` |", "| 99 | `State` |")],
         &[TABLE, "STATE is 99, but 12"],
     ),
     texts(
         &[
-            (TABLE, "| 1 | `FORMAT` |", "| 0 | `SWAP` |"),
-            (TABLE, "| 12 | `STATE` |", "| 1 | `FORMAT` |"),
-            (TABLE, "| 0 | `SWAP` |", "| 12 | `STATE` |"),
+            (TABLE, "| 1 | `Format` |", "| 0 | `Swap` |"),
+            (TABLE, "| 12 | `State` |", "| 1 | `Format` |"),
+            (TABLE, "| 0 | `Swap` |", "| 12 | `State` |"),
         ],
         &[TABLE, "STATE stands where FORMAT is tested"],
     ),

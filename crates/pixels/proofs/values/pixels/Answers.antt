@@ -1,41 +1,7 @@
--- `pixels::values::pixels` meets its contract. Assumes nothing.
-use mathlib.Core.Path.{◌≡◌, sym, ap, subst, ◌∙◌}
-use mathlib.Core.List.{◌++◌}
-use Prim.Native.Nat.{◌≤◌}
+-- `pixels::values::pixels` meets its contract: the pixels of sectors 2 to 11 fit a byte. Assumes nothing.
 use native.Mathlib.Omega.{arith}
-use lib.ListN.{length, drop}
-use Rattle.refusals.proofs.Words.{turned_away, done}
-use Rattle.bits.specs.Bits.{bits_of}
-use Rattle.sector_table.specs.declared.layout.Layout.{Layout}
-use Rattle.sector_check.specs.Sector.{pixels_of}
-use Rattle.sector_table.proofs.Table.{sound, thin}
-use Rattle.pixel_refusals.specs.Refusing.{pixels_answer}
-use Rattle.pixels.specs.Calls.{pixels_left}
-use Rattle.pixel_refusals.proofs.Readable.{pixels_readable, ready}
+use Rattle.sector_table.proofs.Table.{thin}
 use Rattle.pixels.proofs.values.pixels.Goals as goal
 
-pub returns-then-refused-ne0 : goal.returns-then-refused-ne0
-unfolding pixels_left
-returns-then-refused-ne0 c = turned_away _ _ _ _ c.pixels_refusal-refused.ensures c.if-refused-ne0.true
-
-pub layout_of-requires : goal.layout_of-requires
-layout_of-requires c =
-    let none : let a = c.args in pixels_answer 2 11 a.format a.line.now a.sector (length a.out.now) ≡ 0 =
-    sym c.pixels_refusal-refused.ensures ∙ c.if-refused-ne0.false in
-    let h = pixels_readable _ _ _ _ _ _ none in (omega (arith, h.low), omega (arith, h.high))
-
-pub unpack_pixels-requires : goal.unpack_pixels-requires
-unpack_pixels-requires c =
-    let none : let a = c.args in pixels_answer 2 11 a.format a.line.now a.sector (length a.out.now) ≡ 0 =
-    sym c.pixels_refusal-refused.ensures ∙ c.if-refused-ne0.false in
-    let h = pixels_readable _ _ _ _ _ _ none in
-    let found = c.layout_of.ensures in
-    let there = ready (λ (l : Layout). l.count) h found (sound _ (omega (arith, h.low)) (omega (arith, h.high))) in
-    (there.0, there.1, subst (λ (l : Layout). l.width ≤ 8) (sym found) (thin _ (omega (arith, h.low)) h.high), there.2)
-
-pub returns : goal.returns
-unfolding pixels_left
-returns c =
-    let a = c.args in
-    done _ _ _ _ (sym c.if-refused-ne0.false ∙ c.pixels_refusal-refused.ensures)
-    (c.unpack_pixels.ensures ∙ ap (λ (l : Layout). pixels_of l (bits_of a.line.now) ++ drop (l).count a.out.now) c.layout_of.ensures)
+pub stored_pixels-requires : goal.stored_pixels-requires
+stored_pixels-requires c = (omega arith, omega arith, λ n lo hi. thin n (omega arith) hi)

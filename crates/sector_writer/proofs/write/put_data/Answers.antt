@@ -1,36 +1,12 @@
--- `sector_writer::write::put_data` meets its contract. Assumes nothing.
-use mathlib.Core.Path.{sym, ap₂, ◌∙◌}
-use Prim.Native.Nat.{ℕ}
+-- `sector_writer::write::put_data` meets its contract: what passed the tests may be written. Assumes nothing.
+use mathlib.Core.Path.{sym}
 use native.Mathlib.Omega.{arith}
-use lib.ListN.{length}
-use Rattle.refusals.proofs.Words.{turned_away, done}
-use Rattle.bits.specs.Bits.{bits_of}
-use Rattle.sector_table.specs.declared.layout.Layout.{Layout}
-use Rattle.sector_table.specs.Layout.{layout_of, bytes_of}
-use Rattle.sector_frame.specs.Written.{sector_written, data_written}
-use Rattle.sector_writer.specs.Calls.{put_data_left}
-use Rattle.write_refusals.proofs.Writable.{Writable, data_writable, ready}
+use Rattle.sector_table.specs.Layout.{bytes_of}
+use Rattle.write_refusals.proofs.Writable.{data_writable, ready}
 use Rattle.sector_writer.proofs.write.put_data.Goals as goal
 
-pub returns-then-refused-ne0 : goal.returns-then-refused-ne0
-unfolding put_data_left
-returns-then-refused-ne0 c = turned_away _ _ _ _ c.data_refusal-refused.ensures c.if-refused-ne0.true
-
 pub layout_of-requires : goal.layout_of-requires
-layout_of-requires c =
-    let knows : let a = c.args in Writable 1 12 a.sector (length a.line.now) (length a.bytes.now) (bytes_of (layout_of a.sector)) =
-    data_writable _ _ _ _ (sym c.data_refusal-refused.ensures ∙ c.if-refused-ne0.false) in
-    let h = knows in (omega (arith, h.low), omega (arith, h.high))
+layout_of-requires c = let h = data_writable _ _ _ _ (sym c.in_ok-data_refusal.ensures) in (h.low, h.high)
 
 pub write_bytes-requires : goal.write_bytes-requires
-write_bytes-requires c =
-    let knows : let a = c.args in Writable 1 12 a.sector (length a.line.now) (length a.bytes.now) (bytes_of (layout_of a.sector)) =
-    data_writable _ _ _ _ (sym c.data_refusal-refused.ensures ∙ c.if-refused-ne0.false) in
-    ready _ c.layout_of.ensures (λ (l : Layout). bytes_of l) (omega arith) (omega arith) knows
-
-pub returns : goal.returns
-unfolding put_data_left
-returns c =
-    let a = c.args in
-    done _ _ _ _ (sym c.if-refused-ne0.false ∙ c.data_refusal-refused.ensures)
-    (c.write_bytes.ensures ∙ ap₂ (λ (s : ℕ) (l : Layout). sector_written s l (data_written l a.bytes.now) (bits_of a.line.now)) c.check_start.ensures c.layout_of.ensures)
+write_bytes-requires c = ready _ c.layout_of.ensures bytes_of (omega arith) (omega arith) (data_writable _ _ _ _ (sym c.in_ok-data_refusal.ensures))

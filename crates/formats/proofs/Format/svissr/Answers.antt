@@ -1,6 +1,0 @@
--- `formats::Format::svissr` makes the format of the table. Assumes nothing.
-use mathlib.Core.Path.{refl}
-use Rattle.formats.proofs.Format.svissr.Goals as goal
-
-pub returns : goal.returns
-returns c = refl

@@ -1,7 +1,0 @@
--- `unpacking::unpack_pixels_wide` meets its contract. Assumes nothing.
-use Rattle.unpacking.proofs.Unpacked.{pixels_filled}
-use Rattle.unpacking.proofs.unpack_pixels_wide.Goals as goal
-
-pub returns : goal.returns
-returns c =
-    pixels_filled c.args.l c.args.line.now c.args.out.now _ c.requires.0 c.requires.1 c.unpack.ensures
