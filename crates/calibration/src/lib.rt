@@ -12,7 +12,7 @@ ghost use Rattle.calibration.specs.Tables.{Table, albedos, temperatures, level_p
 
 use blocks::assembly::{Assembly, revision_of};
 use blocks::block::CALIBRATION_2;
-use entries::entry::{entry_refusal, real_at};
+use entries::entry::{entry_asked, real_at};
 use floats::value;
 use numbers::R;
 use refusals::{Refusal, within};
@@ -75,7 +75,7 @@ fn level_of(
     let served = within(1, 4, channel as u64, Refusal::Number);
     let last = t.levels - 1;
     let range = within(0, last as u64, level as u64, Refusal::Range);
-    entry_refusal(
+    entry_asked(
         format,
         assembly.marks,
         CALIBRATION_2,

@@ -4,7 +4,7 @@ use crate::event::Event;
 use desk::Part;
 use desk_record::Desk;
 use looks::Look;
-use std::io;
+use text::Stop;
 
 /// A consumer: its name, its number at the desk, how many line times it lags, the serial number of its next line, and the slot of
 /// its last one.
@@ -71,7 +71,7 @@ impl Consumer {
         time: u64,
         format: u8,
         area: &[u8; AREA],
-    ) -> io::Result<()> {
+    ) -> Result<(), Stop> {
         let Some(line) = self.readable(*desk, published) else {
             return Ok(());
         };
@@ -81,17 +81,19 @@ impl Consumer {
         let bytes = area.get(line.part.from..line.part.to).unwrap_or(&[]);
         let look = Look::of(format, bytes);
         let sees = self.event(time, "sees", line.slot, self.next);
-        println!(rt; "{sees} {look}")?;
+        let seen = text::row(rt, format_args!("{sees} {look}"));
         let answer = desk::release(*desk, AREA, self.number, line.slot, self.next);
         *desk = answer.unwrap_or(*desk);
         let releases = self.event(time, "releases", line.slot, self.next);
         self.last = Some(line.slot);
         self.next = self.next.wrapping_add(1);
-        releases.answered(rt, answer)
+        // it releases the line in any case, also where the row before could not be written
+        let released = releases.answered(rt, answer);
+        seen.and(released)
     }
 
     /// The old fault: it releases its last line once more.
-    pub fn again(&self, rt: &HostRuntime, desk: Desk, time: u64) -> io::Result<()> {
+    pub fn again(&self, rt: &HostRuntime, desk: Desk, time: u64) -> Result<(), Stop> {
         let Some(slot) = self.last else {
             return Ok(());
         };

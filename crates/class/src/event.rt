@@ -1,7 +1,8 @@
 // The rows that a class writes, one for each event.
 use desk_record::Desk;
 use refusals::Refusal;
-use std::{fmt, io};
+use std::fmt;
+use text::Stop;
 
 /// Who does what with a slot, under its serial number, in a line time.
 #[derive(Clone, Copy, Debug)]
@@ -28,10 +29,10 @@ impl fmt::Display for Event {
 
 impl Event {
     /// The row of an event, and what the desk refused it with.
-    pub fn answered(self, rt: &HostRuntime, answer: Result<Desk, Refusal>) -> io::Result<()> {
+    pub fn answered(self, rt: &HostRuntime, answer: Result<Desk, Refusal>) -> Result<(), Stop> {
         match answer {
-            Ok(_) => println!(rt; "{self}"),
-            Err(refusal) => println!(rt; "{self} {refusal}"),
+            Ok(_) => text::row(rt, self),
+            Err(refusal) => text::row(rt, format_args!("{self} {refusal}")),
         }
     }
 }

@@ -63,7 +63,8 @@ impl Class {
         self.fed.is_none() || self.preview.next <= self.lines || self.capture.next <= self.lines
     }
 
-    // One line time: the feeder's turn, and then those of the consumers.
+    // One line time: the feeder's turn, and then those of the consumers. A row that could not be written is told where it arose; the
+    // line time goes on, and the class ends behind it.
     fn line_time(
         &mut self,
         rt: &HostRuntime,
@@ -71,16 +72,20 @@ impl Class {
         area: &mut [u8; AREA],
     ) -> Result<(), Stop> {
         self.time = self.time.wrapping_add(1);
-        if self.fed.is_none() {
-            self.feed(rt, piece, area)?;
-        }
+        let fed = if self.fed.is_none() {
+            self.feed(rt, piece, area)
+        } else {
+            Ok(())
+        };
         let now = self.time;
         let format = self.player.format;
-        self.preview
-            .turn(rt, &mut self.desk, &self.published, now, format, area)?;
-        self.capture
-            .turn(rt, &mut self.desk, &self.published, now, format, area)?;
-        Ok(())
+        let preview = self
+            .preview
+            .turn(rt, &mut self.desk, &self.published, now, format, area);
+        let capture = self
+            .capture
+            .turn(rt, &mut self.desk, &self.published, now, format, area);
+        fed.and(preview).and(capture)
     }
 
     // The feeder's turn: it takes a slot, fills it and publishes the line. Where no slot is free it waits; where a take is refused for
@@ -95,7 +100,7 @@ impl Class {
         let taken = match desk::take(self.desk, AREA) {
             Ok(taken) => taken,
             Err(refusal) => {
-                println!(rt; "time {time} feeder takes {refusal}")?;
+                text::row(rt, format_args!("time {time} feeder takes {refusal}"))?;
                 self.waits = self.waits.wrapping_add(1);
                 return if refusal == Refusal::NoSlot {
                     Ok(())
@@ -112,7 +117,7 @@ impl Class {
             slot: taken.slot,
             serial: taken.serial,
         };
-        println!(rt; "{event}")?;
+        text::row(rt, event)?;
         // the slot that was taken is one of the eight
         let Some(slot) = area.chunks_exact_mut(LINE).nth(taken.slot) else {
             return Ok(());
@@ -142,8 +147,7 @@ impl Class {
             *time = self.time;
         }
         self.lines = took.serial;
-        event.answered(rt, answer)?;
-        Ok(())
+        event.answered(rt, answer)
     }
 
     // The last rows: each consumer releases its last line once more, the old fault.
@@ -151,15 +155,14 @@ impl Class {
         self.player.ended(rt);
         self.preview.again(rt, self.desk, self.time)?;
         self.capture.again(rt, self.desk, self.time)?;
-        println!(rt; "waits {}", self.waits)?;
-        println!(rt; "total {}", self.lines)?;
-        Ok(())
+        text::row(rt, format_args!("waits {}", self.waits))?;
+        text::row(rt, format_args!("total {}", self.lines))
     }
 }
 
 // The line times that the word at a place says.
 fn lag(rt: &HostRuntime, place: usize) -> Result<u64, Stop> {
-    command::number_at(
+    command::number_up_to(
         rt,
         place,
         words::MOST,
@@ -170,8 +173,7 @@ fn lag(rt: &HostRuntime, place: usize) -> Result<u64, Stop> {
 
 // A desk of as many slots as the word at a place says.
 fn desk_of(rt: &HostRuntime, place: usize) -> Result<Desk, Stop> {
-    let mut room = [0; command::WORD];
-    let slots = words::number(command::word_at(rt, place, &mut room)).unwrap_or(0);
+    let slots = command::number_at(rt, Some(place), 0).unwrap_or(0);
     desk::fresh(slots as usize).map_err(|refusal| {
         text::told(rt, format_args!("a desk has 2 to 8 slots: {refusal}"))
     })
@@ -182,7 +184,8 @@ fn play(rt: &HostRuntime) -> Result<(), Stop> {
         names: 4,
         setting: true,
     };
-    let asked = command::asked_for(rt, takes, USAGE)?;
+    let asked = command::asked_for(rt, takes);
+    command::goes_on(rt, &asked, USAGE)?;
     let (Some(slots), Some(preview), Some(capture)) = (asked.first, asked.second, asked.third)
     else {
         return Err(command::refuse_missing(rt, "SLOTS, PREVIEW and CAPTURE are needed", USAGE));

@@ -1,10 +1,10 @@
 // The command line: its words heard as `words` says, and where they are not served or help is asked for the program's usage text.
 //
-// What stands on the command line is the operating system's: of these functions it is proved that they are safe and end, and that a
-// number is up to what is asked for.
+// What stands on the command line is the operating system's: of these functions it is proved that they are safe and end, that numbers
+// and settings are up to their largest, and that no program goes on past a word that is not served or a call for help.
 #![tactic(auto)]
 
-ghost use Rattle.std.specs.Prelude.{◌≤◌, IfOk};
+ghost use Rattle.std.specs.Prelude.{◌≡◌, ◌≤◌, length, None, Some, false, IsSome, IfSome, IfOk};
 
 use std::env::{Env, FillError};
 use std::io::Print;
@@ -15,7 +15,9 @@ use words::{Asked, Place, Takes};
 pub const WORD: usize = 4096;
 
 /// Inner. The word at a place; nothing where there is none, and where it is too long for a word of any kind.
-pub fn word_at<'a>(rt: &impl Env, place: usize, room: &'a mut [u8; WORD]) -> &'a [u8] {
+pub fn word_at<'a>(rt: &impl Env, place: usize, room: &'a mut [u8; WORD]) -> &'a [u8]
+    ensures in_bounds { length result.now ≤ 4096 }
+{
     match rt.arg(place, room) {
         Ok(n) => &room[..n],
         Err(_) => &[],
@@ -35,8 +37,8 @@ fn listened(rt: &impl Env, a: Asked, place: usize, t: Takes) -> Option<Asked> {
     }
 }
 
-// All words of the command line, by what a program takes.
-fn heard(rt: &impl Env, t: Takes) -> Asked {
+/// What all words of the command line ask for, by what a program takes.
+pub fn asked_for(rt: &impl Env, t: Takes) -> Asked {
     let mut asked = words::nothing();
     for place in 1..usize::MAX {
         let Some(more) = listened(rt, asked, place, t) else {
@@ -68,10 +70,11 @@ pub fn refuse_word(rt: &HostRuntime, what: &str, place: usize, usage: &str) -> S
     refuse(rt, what, word_at(rt, place, &mut room), usage)
 }
 
-/// What the words of the command line ask for, by what a program takes. A word that is not served is refused with the usage text on
-/// standard error; where help is asked for, the usage text is all that is written.
-pub fn asked_for(rt: &HostRuntime, t: Takes, usage: &str) -> Result<Asked, Stop> {
-    let asked = heard(rt, t);
+/// Whether the program is to go on with what its words ask for. A word that is not served is refused with the usage text on standard
+/// error; where help is asked for, the usage text is all that is written.
+pub fn goes_on(rt: &HostRuntime, asked: &Asked, usage: &str) -> Result<(), Stop>
+    ensures { IfOk result (λ _. (asked.now.wrong ≡ None) × (asked.now.help ≡ false)) }
+{
     if let Some(place) = asked.wrong {
         return Err(refuse_word(rt, "not a word of this program: ", place, usage));
     }
@@ -79,11 +82,26 @@ pub fn asked_for(rt: &HostRuntime, t: Takes, usage: &str) -> Result<Asked, Stop>
         let _ = rt.write_all(usage.as_bytes());
         return Err(Stop::Told);
     }
-    Ok(asked)
+    Ok(())
 }
 
-/// The number at a place, up to the largest that is meant. Another word is refused.
-pub fn number_at(
+/// The number that the word at a place says, or what is meant where there is no word; none where the word is no number up to
+/// `words::MOST`.
+pub fn number_at(rt: &impl Env, place: Option<usize>, otherwise: u64) -> Option<u64>
+    ensures meant { place ≡ None → result ≡ Some otherwise }
+    ensures bound { IsSome place → IfSome result (λ n. n ≤ 1000000) }
+{
+    match place {
+        Some(place) => {
+            let mut room = [0; WORD];
+            words::number(word_at(rt, place, &mut room))
+        }
+        None => Some(otherwise),
+    }
+}
+
+/// The number that the word at a place says, up to the largest that is meant. Another word is refused with the usage text.
+pub fn number_up_to(
     rt: &HostRuntime,
     place: usize,
     most: u64,
@@ -92,20 +110,44 @@ pub fn number_at(
 ) -> Result<u64, Stop>
     ensures { IfOk result (λ n. n ≤ most) }
 {
-    let mut room = [0; WORD];
-    let word = word_at(rt, place, &mut room);
-    match words::number(word) {
+    match number_at(rt, Some(place), 0) {
         Some(n) if n <= most => Ok(n),
-        _ => Err(refuse(rt, what, word, usage)),
+        _ => Err(refuse_word(rt, what, place, usage)),
     }
 }
 
-/// The setting that is asked for, 0 where none is. Another word is refused.
-pub fn setting_at(rt: &HostRuntime, setting: Place, usage: &str) -> Result<u8, Stop> {
-    let Place::At(place) = setting else {
-        return Ok(0);
-    };
-    let mut room = [0; WORD];
-    let word = word_at(rt, place, &mut room);
-    spelling::setting_of(word).ok_or_else(|| refuse(rt, "not a setting, 0 to 6: ", word, usage))
+// Where the word stands that is to be the setting: that of a -s which still awaits it is -s.
+fn place_of(setting: Place) -> Option<usize> {
+    match setting {
+        Place::Unasked => None,
+        Place::Awaited(place) | Place::At(place) => Some(place),
+    }
+}
+
+/// The setting that is asked for, 0 where none is; none where the word is no setting.
+pub fn setting_at(rt: &impl Env, setting: Place) -> Option<u8>
+    ensures { IfSome result (λ k. k ≤ 6) }
+{
+    match place_of(setting) {
+        Some(place) => {
+            let mut room = [0; WORD];
+            spelling::setting_of(word_at(rt, place, &mut room))
+        }
+        None => Some(0),
+    }
+}
+
+/// The setting that is asked for, 0 where none is. A word that is no setting is refused with the usage text.
+pub fn setting_or_refused(rt: &HostRuntime, setting: Place, usage: &str) -> Result<u8, Stop>
+    ensures { IfOk result (λ k. k ≤ 6) }
+{
+    match place_of(setting) {
+        Some(place) => setting_at(rt, setting).ok_or_else(|| refuse_word(
+            rt,
+            "not a setting, 0 to 6: ",
+            place,
+            usage,
+        )),
+        None => Ok(0),
+    }
 }

@@ -12,8 +12,6 @@ ghost use Rattle.std.specs.Prelude.{◌≤◌};
 use reader_line::Reading;
 use reader_record::State;
 use std::fmt::Display;
-use std::io;
-use text::Stop;
 
 // The bytes that a recording here can have, and those of a line.
 const SPACE: usize = 89000;
@@ -94,14 +92,8 @@ fn drive(setting: u8, rec: &[u8], size: usize, line: &mut [u8; LINE]) -> Run {
 }
 
 // The first bytes of a recording, read in pieces of at most size bytes, and what was seen; at setting 0, and at another.
-fn edge(
-    rt: &HostRuntime,
-    name: &str,
-    rec: &[u8; SPACE],
-    bytes: usize,
-    size: usize,
-) -> io::Result<()> {
-    seen(rt, name, 0, rec, bytes, size)
+fn edge(rt: &HostRuntime, name: &str, rec: &[u8; SPACE], bytes: usize, size: usize) {
+    seen(rt, name, 0, rec, bytes, size);
 }
 
 fn edge_at(
@@ -111,7 +103,7 @@ fn edge_at(
     rec: &[u8; SPACE],
     bytes: usize,
     size: usize,
-) -> io::Result<()> {
+) {
     seen(
         rt,
         format_args!("{name} at setting {setting}"),
@@ -129,45 +121,41 @@ fn seen<D: Display + Drop>(
     rec: &[u8; SPACE],
     bytes: usize,
     size: usize,
-) -> io::Result<()> {
+) {
     let mut line = [7; LINE];
     let run = drive(setting, &rec[..bytes.min(SPACE)], size, &mut line);
     let lines = run.lines;
-    match run.last {
-        Some(Ended { bytes, unread }) => println!(rt;
-            "{name}: lines {lines}, the last after {bytes} bytes with {unread} bits unread, opening {} {} {} {} and ending {}",
-            line[0], line[1], line[2], line[3], line[44355],
+    let _ = match run.last {
+        Some(Ended { bytes, unread }) => text::row(
+            rt,
+            format_args!(
+                "{name}: lines {lines}, the last after {bytes} bytes with {unread} bits unread, opening {} {} {} {} and ending {}",
+                line[0], line[1], line[2], line[3], line[44355],
+            ),
         ),
-        None => println!(rt; "{name}: lines {lines}"),
-    }
+        None => text::row(rt, format_args!("{name}: lines {lines}")),
+    };
 }
 
 // The refusal of a call with nothing to read, 0 for none, in a format, at a setting, with a record and a buffer that is lent.
-fn told(
-    rt: &HostRuntime,
-    name: &str,
-    format: u8,
-    setting: u8,
-    s: State,
-    line: &mut [u8],
-) -> io::Result<()> {
+fn told(rt: &HostRuntime, name: &str, format: u8, setting: u8, s: State, line: &mut [u8]) {
     let refusal = refusals::number_in(reader::read(format, setting, s, &[], line));
-    println!(rt; "{name}: refusal {refusal}")
+    let _ = text::row(rt, format_args!("{name}: refusal {refusal}"));
 }
 
 // With a buffer of 44,356 bytes, at setting 0 and at another; and of one byte less.
-fn asked(rt: &HostRuntime, name: &str, format: u8, s: State) -> io::Result<()> {
-    asked_at(rt, name, format, 0, s)
+fn asked(rt: &HostRuntime, name: &str, format: u8, s: State) {
+    asked_at(rt, name, format, 0, s);
 }
 
-fn asked_at(rt: &HostRuntime, name: &str, format: u8, setting: u8, s: State) -> io::Result<()> {
+fn asked_at(rt: &HostRuntime, name: &str, format: u8, setting: u8, s: State) {
     let mut line = [0; LINE];
-    told(rt, name, format, setting, s, &mut line)
+    told(rt, name, format, setting, s, &mut line);
 }
 
-fn asked_short(rt: &HostRuntime, name: &str, format: u8, setting: u8, s: State) -> io::Result<()> {
+fn asked_short(rt: &HostRuntime, name: &str, format: u8, setting: u8, s: State) {
     let mut line = [0; 44355];
-    told(rt, name, format, setting, s, &mut line)
+    told(rt, name, format, setting, s, &mut line);
 }
 
 // A record between lines, and one in a line, with the fields that an edge has.
@@ -200,60 +188,58 @@ fn reading(
 }
 
 // Lines at their edges.
-fn lines_at_edges(rt: &HostRuntime) -> io::Result<()> {
+fn lines_at_edges(rt: &HostRuntime) {
     let mut rec = [0; SPACE];
     // 63 bits of the tail, from the second bit on, and the end
     put_tail(&mut rec, 1, TAIL);
-    edge(rt, "63 tail bits and the end", &rec, 8, SPACE)?;
-    edge(rt, "64 tail bits and 354847 bits", &rec, 44364, SPACE)?;
+    edge(rt, "63 tail bits and the end", &rec, 8, SPACE);
+    edge(rt, "64 tail bits and 354847 bits", &rec, 44364, SPACE);
     rec.fill(0);
     put_tail(&mut rec, 0, TAIL);
-    edge(rt, "64 tail bits and 354848 bits", &rec, 44364, SPACE)?;
-    edge(rt, "one-byte pieces", &rec, 44364, 1)?;
-    edge(rt, "44363-byte pieces", &rec, 44364, 44363)?;
+    edge(rt, "64 tail bits and 354848 bits", &rec, 44364, SPACE);
+    edge(rt, "one-byte pieces", &rec, 44364, 1);
+    edge(rt, "44363-byte pieces", &rec, 44364, 44363);
     // another tail inside the line, at byte 1000 of it
     put_tail(&mut rec, 8064, TAIL);
-    edge(rt, "a tail inside a line", &rec, SPACE, SPACE)?;
+    edge(rt, "a tail inside a line", &rec, SPACE, SPACE);
     // another across the line's end, 32 bits on each side
     rec.fill(0);
     put_tail(&mut rec, 0, TAIL);
     put_tail(&mut rec, 354880, TAIL);
-    edge(rt, "a tail across a line's end", &rec, SPACE, SPACE)?;
+    edge(rt, "a tail across a line's end", &rec, SPACE, SPACE);
     // another right after the line's end
     rec.fill(0);
     put_tail(&mut rec, 0, TAIL);
     put_tail(&mut rec, 354912, TAIL);
-    edge(rt, "a tail right after a line's end", &rec, SPACE, SPACE)?;
+    edge(rt, "a tail right after a line's end", &rec, SPACE, SPACE);
     // a tail inside noise of ones and zeros
     rec.fill(0x55);
     put_tail(&mut rec, 803, TAIL);
-    edge(rt, "a tail inside noise", &rec, SPACE, SPACE)?;
+    edge(rt, "a tail inside noise", &rec, SPACE, SPACE);
     edge(
         rt,
         "a tail inside noise, pieces of 100 bytes",
         &rec,
         SPACE,
         100,
-    )?;
-    Ok(())
+    );
 }
 
 // Every bit of a byte as a line's start.
-fn offsets(rt: &HostRuntime) -> io::Result<()> {
+fn offsets(rt: &HostRuntime) {
     for offset in 0..8 {
         let mut rec = [0; SPACE];
         put_tail(&mut rec, offset, TAIL);
-        seen(rt, format_args!("offset {offset}"), 0, &rec, 44365, SPACE)?;
+        seen(rt, format_args!("offset {offset}"), 0, &rec, 44365, SPACE);
     }
-    Ok(())
 }
 
 // Tails with wrong bits, on both sides of the setting; and one in front of the exact tail, which is the first and wins.
-fn tails_at_edges(rt: &HostRuntime) -> io::Result<()> {
+fn tails_at_edges(rt: &HostRuntime) {
     let mut rec = [0; SPACE];
     put_tail(&mut rec, 0, THREE_WRONG);
-    edge_at(rt, "a tail with 3 wrong bits", 2, &rec, SPACE, SPACE)?;
-    edge_at(rt, "a tail with 3 wrong bits", 3, &rec, SPACE, SPACE)?;
+    edge_at(rt, "a tail with 3 wrong bits", 2, &rec, SPACE, SPACE);
+    edge_at(rt, "a tail with 3 wrong bits", 3, &rec, SPACE, SPACE);
     edge_at(
         rt,
         "a tail with 3 wrong bits, one-byte pieces,",
@@ -261,12 +247,12 @@ fn tails_at_edges(rt: &HostRuntime) -> io::Result<()> {
         &rec,
         44364,
         1,
-    )?;
+    );
     put_tail(&mut rec, 0, SIX_WRONG);
-    edge_at(rt, "a tail with 6 wrong bits", 5, &rec, SPACE, SPACE)?;
-    edge_at(rt, "a tail with 6 wrong bits", 6, &rec, SPACE, SPACE)?;
+    edge_at(rt, "a tail with 6 wrong bits", 5, &rec, SPACE, SPACE);
+    edge_at(rt, "a tail with 6 wrong bits", 6, &rec, SPACE, SPACE);
     put_tail(&mut rec, 0, SEVEN_WRONG);
-    edge_at(rt, "a tail with 7 wrong bits", 6, &rec, SPACE, SPACE)?;
+    edge_at(rt, "a tail with 7 wrong bits", 6, &rec, SPACE, SPACE);
     put_tail(&mut rec, 0, ONE_WRONG);
     put_tail(&mut rec, 64, TAIL);
     edge_at(
@@ -276,7 +262,7 @@ fn tails_at_edges(rt: &HostRuntime) -> io::Result<()> {
         &rec,
         SPACE,
         SPACE,
-    )?;
+    );
     edge_at(
         rt,
         "a tail with a wrong bit before the tail",
@@ -284,85 +270,80 @@ fn tails_at_edges(rt: &HostRuntime) -> io::Result<()> {
         &rec,
         SPACE,
         SPACE,
-    )?;
-    Ok(())
+    );
 }
 
 // An empty piece.
-fn nothing(rt: &HostRuntime) -> io::Result<()> {
+fn nothing(rt: &HostRuntime) {
     let mut line = [0; LINE];
     let taken = match reader::read(1, 0, reader_record::fresh(), &[], &mut line) {
         Ok(Reading::More { taken, .. } | Reading::Line { taken, .. }) => taken,
         Err(_) => 0,
     };
-    println!(rt; "empty piece: taken {taken}")
+    let _ = text::row(rt, format_args!("empty piece: taken {taken}"));
 }
 
 // Refusals, both sides of each.
-fn refused(rt: &HostRuntime) -> io::Result<()> {
+fn refused(rt: &HostRuntime) {
     let s = reader_record::fresh();
-    asked(rt, "format 0", 0, s)?;
-    asked(rt, "format 1", 1, s)?;
-    asked(rt, "format 2", 2, s)?;
-    asked(rt, "format 3", 3, s)?;
-    asked(rt, "format 4", 4, s)?;
-    asked_short(rt, "buffer 44355", 1, 0, s)?;
-    asked(rt, "buffer 44356", 1, s)?;
-    asked(rt, "position 354847", 1, reading(354847, 32767, 0, 7, 0))?;
-    asked(rt, "position 354848", 1, reading(354848, 32767, 0, 0, 0))?;
-    asked(rt, "63 remembered bits", 1, searching(0, 63, 0, 0))?;
-    asked(rt, "64 remembered bits", 1, searching(0, 64, 0, 0))?;
-    asked(rt, "register 32767", 1, reading(0, 32767, 0, 0, 0))?;
-    asked(rt, "register 32768", 1, reading(0, 32768, 0, 0, 0))?;
-    asked(rt, "7 unread bits", 1, searching(0, 0, 127, 7))?;
-    asked(rt, "8 unread bits", 1, searching(0, 0, 255, 8))?;
-    asked(rt, "search bit 1 of 1", 1, searching(1, 1, 0, 0))?;
-    asked(rt, "search bits 2 of 1", 1, searching(2, 1, 0, 0))?;
+    asked(rt, "format 0", 0, s);
+    asked(rt, "format 1", 1, s);
+    asked(rt, "format 2", 2, s);
+    asked(rt, "format 3", 3, s);
+    asked(rt, "format 4", 4, s);
+    asked_short(rt, "buffer 44355", 1, 0, s);
+    asked(rt, "buffer 44356", 1, s);
+    asked(rt, "position 354847", 1, reading(354847, 32767, 0, 7, 0));
+    asked(rt, "position 354848", 1, reading(354848, 32767, 0, 0, 0));
+    asked(rt, "63 remembered bits", 1, searching(0, 63, 0, 0));
+    asked(rt, "64 remembered bits", 1, searching(0, 64, 0, 0));
+    asked(rt, "register 32767", 1, reading(0, 32767, 0, 0, 0));
+    asked(rt, "register 32768", 1, reading(0, 32768, 0, 0, 0));
+    asked(rt, "7 unread bits", 1, searching(0, 0, 127, 7));
+    asked(rt, "8 unread bits", 1, searching(0, 0, 255, 8));
+    asked(rt, "search bit 1 of 1", 1, searching(1, 1, 0, 0));
+    asked(rt, "search bits 2 of 1", 1, searching(2, 1, 0, 0));
     asked(
         rt,
         "remembered and unread bits together",
         1,
         searching(5, 3, 2, 2),
-    )?;
-    asked(rt, "3 bits wait at position 11", 1, reading(11, 0, 7, 3, 0))?;
-    asked(rt, "2 bits wait at position 11", 1, reading(11, 0, 3, 2, 0))?;
-    asked(rt, "waiting bits 8 of 3", 1, reading(11, 0, 8, 3, 0))?;
-    asked(rt, "an unread bit inside a line", 1, reading(0, 0, 0, 0, 1))?;
+    );
+    asked(rt, "3 bits wait at position 11", 1, reading(11, 0, 7, 3, 0));
+    asked(rt, "2 bits wait at position 11", 1, reading(11, 0, 3, 2, 0));
+    asked(rt, "waiting bits 8 of 3", 1, reading(11, 0, 8, 3, 0));
+    asked(rt, "an unread bit inside a line", 1, reading(0, 0, 0, 0, 1));
     asked_short(
         rt,
         "impossible record and short buffer",
         1,
         0,
         reading(0, 32768, 0, 0, 0),
-    )?;
+    );
     asked(
         rt,
         "unknown format and impossible record",
         4,
         reading(0, 32768, 0, 0, 0),
-    )?;
-    asked_at(rt, "setting 6", 1, 6, s)?;
-    asked_at(rt, "setting 7", 1, 7, s)?;
-    asked_at(rt, "unknown format and setting 7", 4, 7, s)?;
+    );
+    asked_at(rt, "setting 6", 1, 6, s);
+    asked_at(rt, "setting 7", 1, 7, s);
+    asked_at(rt, "unknown format and setting 7", 4, 7, s);
     asked_at(
         rt,
         "setting 7 and impossible record",
         1,
         7,
         reading(0, 32768, 0, 0, 0),
-    )?;
-    asked_short(rt, "setting 7 and short buffer", 1, 7, s)?;
-    Ok(())
+    );
+    asked_short(rt, "setting 7 and short buffer", 1, 7, s);
 }
 
-fn all(rt: &HostRuntime) -> io::Result<()> {
-    lines_at_edges(rt)?;
-    offsets(rt)?;
-    tails_at_edges(rt)?;
-    nothing(rt)?;
-    refused(rt)
-}
-
+// A row that cannot be written is told, and the next one is tried.
 fn main(rt: HostRuntime) {
-    text::end(&rt, all(&rt).map_err(Stop::from));
+    lines_at_edges(&rt);
+    offsets(&rt);
+    tails_at_edges(&rt);
+    nothing(&rt);
+    refused(&rt);
 }

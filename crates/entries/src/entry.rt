@@ -10,12 +10,12 @@ use blocks::block::{block_of, block_refusal};
 use blocks::marks::{Marks, marks_refusal, unfinished_refusal};
 use formats::format_refusal;
 use numbers::{R, read_real};
-use refusals::{Refusal, enough};
+use refusals::{Refusal, enough, first, number_in, short};
 
-// Inner. What refuses an entry of a block: 1, 12, 4, 10, 2 where its buffer is under its size, 9 where not all its segments
+// Inner. Refuses an entry of a block, with 1, 12, 4, 10, 2 where its buffer is under its size, 9 where not all its segments
 // are marked. What the call itself says of its channel, by 4, and of its level or grid point, by 10, is handed in.
 #[tactic(auto, using(refusals::proofs::Numbers::refused_first, refusals::proofs::Numbers::passed_first), unfolding(crate::specs::Entries::entry_refusal))]
-pub fn entry_refusal(
+pub fn entry_asked(
     format: u8,
     marks: Marks,
     number: u8,
@@ -32,6 +32,28 @@ pub fn entry_refusal(
     range?;
     enough(given, block_of(number).size, Refusal::ShortInput)?;
     unfinished_refusal(marks)
+}
+
+// Inner. The same by numbers, for a caller that holds numbers: what refuses an entry; else 0. What the call itself says of its
+// channel, 4 or 0, and of its level or grid point, 10 or 0, is handed in; any other number is taken too.
+pub fn entry_refusal(
+    format: u8,
+    marks: Marks,
+    number: u8,
+    channel: u8,
+    range: u8,
+    given: usize,
+) -> u8
+    ensures { result ≡ entry_refusal format marks number channel range given }
+{
+    let known = number_in(format_refusal(format));
+    let asked = first(known, number_in(marks_refusal(marks)));
+    let block = number_in(block_refusal(format, number));
+    let named = first(first(block, channel), range);
+    let needed = block_of(number).size;
+    let long = short(given, needed, Refusal::ShortInput.number());
+    let whole = first(long, number_in(unfinished_refusal(marks)));
+    first(asked, first(named, whole))
 }
 
 // Inner. The R*n.m number at a place.

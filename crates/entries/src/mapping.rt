@@ -2,7 +2,7 @@
 ghost use Rattle.std.specs.Prelude.{◌≡◌};
 ghost use Rattle.entries.specs.Entries.{MappingOk};
 
-use crate::entry::entry_refusal;
+use crate::entry::entry_asked;
 use blocks::assembly::Assembly;
 use blocks::block::MAPPING;
 use grid_points::{Grid, grid_at};
@@ -25,6 +25,6 @@ pub fn mapping(
     let rows = within(0, LAST, row as u64, Refusal::Range);
     let columns = within(0, LAST, column as u64, Refusal::Range);
     let range = rows.and(columns);
-    entry_refusal(format, assembly.marks, MAPPING, Ok(()), range, block.len())?;
+    entry_asked(format, assembly.marks, MAPPING, Ok(()), range, block.len())?;
     Ok(grid_at(format, block, row, column))
 }

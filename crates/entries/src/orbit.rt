@@ -2,7 +2,7 @@
 ghost use Rattle.std.specs.Prelude.{◌≡◌, ◌≤◌, length};
 ghost use Rattle.entries.specs.Entries.{elements_in, ElementsOk};
 
-use crate::entry::{entry_refusal, float_at};
+use crate::entry::{entry_asked, float_at};
 use blocks::assembly::Assembly;
 use blocks::block::ORBIT;
 use refusals::Refusal;
@@ -42,6 +42,6 @@ fn elements_in(block: &[u8]) -> Orbit
 pub fn elements(format: u8, assembly: Assembly, block: &[u8]) -> Result<Orbit, Refusal>
     ensures { ElementsOk format assembly.marks block.now result }
 {
-    entry_refusal(format, assembly.marks, ORBIT, Ok(()), Ok(()), block.len())?;
+    entry_asked(format, assembly.marks, ORBIT, Ok(()), Ok(()), block.len())?;
     Ok(elements_in(block))
 }

@@ -2,7 +2,7 @@
 ghost use Rattle.std.specs.Prelude.{◌≡◌};
 ghost use Rattle.entries.specs.Entries.{RevisionOk};
 
-use crate::entry::entry_refusal;
+use crate::entry::entry_asked;
 use blocks::assembly::{Assembly, revision_of};
 use blocks::block::{CALIBRATION_2, MANAM};
 use refusals::{Refusal, within};
@@ -19,6 +19,6 @@ pub fn revision(format: u8, assembly: Assembly, number: u8, block: &[u8]) -> Res
         number as u64,
         Refusal::Number,
     );
-    entry_refusal(format, assembly.marks, number, served, Ok(()), block.len())?;
+    entry_asked(format, assembly.marks, number, served, Ok(()), block.len())?;
     Ok(revision_of(number, assembly.revisions))
 }

@@ -8,7 +8,8 @@ use blocks::assembly::Assembly;
 use blocks::block::{CALIBRATION_1, CALIBRATION_2, MANAM, MAPPING, ORBIT};
 use blocks::marks::ALL;
 use grid_points::Grid;
-use std::{fmt, io};
+use std::fmt;
+use text::Stop;
 
 // The row of a block: its name, how many segments it has, its revision where it is finished and has one, and how many lines were
 // foreign to it. HiRID has no calibration-2.
@@ -113,10 +114,13 @@ impl fmt::Display for Point {
 }
 
 // The corners of the map, and a point within.
-fn mapping(rt: &HostRuntime, format: u8, a: Assembly, block: &[u8]) -> io::Result<()> {
+fn mapping(rt: &HostRuntime, format: u8, a: Assembly, block: &[u8]) -> Result<(), Stop> {
     for (row, column) in [(0, 0), (0, 24), (24, 0), (24, 24), (12, 13)] {
         let point = Said(entries::mapping::mapping(format, a, block, row, column).map(Point));
-        println!(rt; "mapping row {row} column {column} {point}")?;
+        text::row(
+            rt,
+            format_args!("mapping row {row} column {column} {point}"),
+        )?;
     }
     Ok(())
 }
@@ -128,43 +132,58 @@ fn element(block: &[u8], i: u8, places: u8) -> Said<Decimal> {
 }
 
 // The elements, in the order in which `entries::orbit::elements` gives them.
-fn orbit(rt: &HostRuntime, format: u8, a: Assembly, block: &[u8]) -> io::Result<()> {
+fn orbit(rt: &HostRuntime, format: u8, a: Assembly, block: &[u8]) -> Result<(), Stop> {
     match entries::orbit::elements(format, a, block) {
-        Ok(_) => println!(rt;
-            "orbit epoch {} axis {} eccentricity {} inclination {} node {} perigee {} anomaly {}",
-            element(block, 0, 8),
-            element(block, 1, 8),
-            element(block, 2, 10),
-            element(block, 3, 8),
-            element(block, 4, 8),
-            element(block, 5, 8),
-            element(block, 6, 8),
+        Ok(_) => text::row(
+            rt,
+            format_args!(
+                "orbit epoch {} axis {} eccentricity {} inclination {} node {} perigee {} anomaly {}",
+                element(block, 0, 8),
+                element(block, 1, 8),
+                element(block, 2, 10),
+                element(block, 3, 8),
+                element(block, 4, 8),
+                element(block, 5, 8),
+                element(block, 6, 8),
+            ),
         ),
-        Err(refusal) => println!(rt; "orbit {refusal}"),
+        Err(refusal) => text::row(rt, format_args!("orbit {refusal}")),
     }
 }
 
 // Three levels of each of the four visible channels, and of each of the four infrared ones.
-fn levels(rt: &HostRuntime, format: u8, a: Assembly, block: &[u8]) -> io::Result<()> {
+fn levels(rt: &HostRuntime, format: u8, a: Assembly, block: &[u8]) -> Result<(), Stop> {
     for channel in 1..5 {
         for level in [0, 32, 63] {
             let albedo = calibration::albedo(format, a, block, channel, level);
             let value = Said(albedo.map(|level| Decimal(level.value)));
-            println!(rt; "albedo VIS{channel} level {level} {value}")?;
+            text::row(
+                rt,
+                format_args!("albedo VIS{channel} level {level} {value}"),
+            )?;
         }
     }
     for channel in 1..5 {
         for level in [0, 512, 1023] {
             let temperature = calibration::temperature(format, a, block, channel, level);
             let value = Said(temperature.map(|level| Decimal(level.value)));
-            println!(rt; "temperature IR{channel} level {level} {value}")?;
+            text::row(
+                rt,
+                format_args!("temperature IR{channel} level {level} {value}"),
+            )?;
         }
     }
     Ok(())
 }
 
 // Some entries of a block.
-fn entries(rt: &HostRuntime, format: u8, number: u8, a: Assembly, block: &[u8]) -> io::Result<()> {
+fn entries(
+    rt: &HostRuntime,
+    format: u8,
+    number: u8,
+    a: Assembly,
+    block: &[u8],
+) -> Result<(), Stop> {
     match number {
         MAPPING => mapping(rt, format, a, block),
         ORBIT => orbit(rt, format, a, block),
@@ -174,10 +193,10 @@ fn entries(rt: &HostRuntime, format: u8, number: u8, a: Assembly, block: &[u8]) 
 }
 
 /// The rows of all five, and then some entries of the finished ones. The other blocks stand behind a block in what is lent.
-pub fn show(rt: &HostRuntime, format: u8, five: &Five, room: &[u8; ROOM]) -> io::Result<()> {
+pub fn show(rt: &HostRuntime, format: u8, five: &Five, room: &[u8; ROOM]) -> Result<(), Stop> {
     for (number, kept) in (1..).zip(five.kept.iter()) {
         let row = Row::of(format, number, kept, &room[place_of(number)..]);
-        println!(rt; "{row}")?;
+        text::row(rt, row)?;
     }
     for (number, kept) in (1..).zip(five.kept.iter()) {
         if kept.assembly.marks.segments == ALL {

@@ -44,12 +44,12 @@ fn say(rt: &HostRuntime) -> Result<(), Stop> {
         if !player.next(rt, &mut piece, &mut plain)? {
             player.ended(rt);
             blocks_at_end::show(rt, player.format, &five, &room)?;
-            println!(rt; "total {}", number - 1)?;
+            text::row(rt, format_args!("total {}", number - 1))?;
             break;
         }
         five.add(player.format, &plain, &mut room);
         let fields = Fields::of(player.format, &plain);
-        println!(rt; "line {number} {fields} {five}")?;
+        text::row(rt, format_args!("line {number} {fields} {five}"))?;
     }
     Ok(())
 }

@@ -1,6 +1,6 @@
 -- An R number in f64: the magnitude divided by a power of ten, both exact in binary64, rounded once; the sign is put on
 -- last, on a zero too. Assumes nothing.
-use Rattle.std.specs.Prelude.{Bool, true, false, List, ℕ, ◌^◌, ◌<◌, pos, length, Result, Ok}
+use Rattle.std.specs.Prelude.{Bool, true, false, List, ℕ, ◌^◌, ◌<◌, pos, length, Result, Ok, Err}
 use Rattle.std.specs.Float.Ieee as Ieee
 use Rattle.std.specs.Float.{binary64}
 use Rattle.refusals.specs.declared.Refusal.{Refusal}
@@ -26,6 +26,15 @@ zero_float = Ieee.fin false 0 (pos 0)
 -- both sides of the division are exact in f64; every R*n.m is such a number
 abbrev pub Fits : R → Type 0
 Fits r = (r.magnitude < 2 ^ 47) × (r.places < 16)
+
+unfoldable pub FitsIn : Result R Refusal → Type 0
+FitsIn (Ok r) = Fits r
+FitsIn (Err e) = Unit {0}
+
+-- a refusal stays the refusal that it is
+unfoldable pub as_float : Result R Refusal → Result Ieee.Float Refusal
+as_float (Ok r) = Ok (value_of r)
+as_float (Err e) = Err e
 
 -- 10, 2, as R*n.m is refused
 unfoldable pub read_f64_answer : ℕ → ℕ → List ℕ → Result Ieee.Float Refusal

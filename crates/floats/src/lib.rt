@@ -7,7 +7,7 @@
 #![tactic(auto)]
 
 ghost use Rattle.std.specs.Prelude.{◌≡◌, ◌^◌, ◌<◌};
-ghost use Rattle.floats.specs.Floats.{Fits, value_of, ReadF64Ok};
+ghost use Rattle.floats.specs.Floats.{Fits, FitsIn, value_of, as_float, ReadF64Ok};
 
 use numbers::{R, read_real};
 use refusals::Refusal;
@@ -51,6 +51,15 @@ pub fn value(r: R) -> f64
     let p = power(r.places);
     let q = (magnitude as f64) / (p as f64);
     if r.negative { -q } else { q }
+}
+
+// Inner. An answer in f64; a refusal stays the refusal that it is.
+#[tactic(auto, unfolding(crate::specs::Floats::FitsIn, crate::specs::Floats::as_float))]
+pub fn as_float(r: Result<R, Refusal>) -> Result<f64, Refusal>
+    requires { FitsIn r }
+    ensures { result ≡ as_float r }
+{
+    Ok(value(r?))
 }
 
 // R*n.m in f64, refused as `read_real` refuses.

@@ -27,14 +27,15 @@ fn named(a: Asked, place: usize, most: usize) -> Asked
     }
 }
 
-// A format at a place. Where the words before it asked for another one, it is not served.
+// A format at a place. Where the words before it asked for another one, it is not served. Of format 1, which is meant where none is
+// asked for, nothing is kept.
 fn formatted(a: Asked, place: usize, n: u8) -> Asked
     ensures { result ≡ Words·formatted a place n }
 {
     match a.format {
         Some(other) if other != n => unserved(a, place),
         _ => Asked {
-            format: Some(n),
+            format: (n != 1).then_some(n),
             ..a
         },
     }

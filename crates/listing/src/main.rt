@@ -32,12 +32,15 @@ fn list(rt: &HostRuntime) -> Result<(), Stop> {
     for number in 1..u64::MAX {
         if !player.next(rt, &mut piece, &mut line)? {
             player.ended(rt);
-            println!(rt; "total {}", number - 1)?;
+            text::row(rt, format_args!("total {}", number - 1))?;
             break;
         }
         let good = looks::goods(player.format, &line);
         let filler = fillers(player.format, &line);
-        println!(rt; "line {number} good {good} filler {filler}")?;
+        text::row(
+            rt,
+            format_args!("line {number} good {good} filler {filler}"),
+        )?;
     }
     Ok(())
 }

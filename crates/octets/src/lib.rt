@@ -21,12 +21,14 @@ pub fn same(a: &[u8], from: usize, b: &[u8], at: usize, n: usize) -> bool
 }
 
 // Inner. The n bytes of a from one place on, put into b from another; every other byte of b is kept.
-#[tactic(auto, unfolding(bits::specs::Bits::stretch))]
 pub fn copy(a: &[u8], from: usize, n: usize, b: &mut [u8], at: usize)
     requires { (from + n ≤ length a.now) × (at + n ≤ length b.old) }
     ensures { b.new ≡ take at b.old ++ stretch a.now from n ++ drop (at + n) b.old }
 {
-    b[at..at + n].copy_from_slice(&a[from..from + n]);
+    // byte by byte, which is compiled to `memcpy`: `copy_from_slice` is to `memmove`, a name that users of the archive would have to have
+    for i in 0..n {
+        b[at + i] = a[from + i];
+    }
 }
 
 // Inner. One value n times, put into b from a place on; every other byte of b is kept.

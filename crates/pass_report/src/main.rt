@@ -5,7 +5,7 @@
 #![tactic(auto)]
 
 use report_record::{Range, Report};
-use std::{fmt, io};
+use std::fmt;
 use text::Stop;
 
 const USAGE: &str = "usage: report [-2|-3] [-s K] [FILE]
@@ -24,20 +24,26 @@ written.
 ";
 
 // The whole report: a row for all lines, one for each sector, and one for each channel.
-fn write_report(rt: &HostRuntime, report: &Report) -> io::Result<()> {
-    println!(rt; "lines {}", report.lines)?;
+fn write_report(rt: &HostRuntime, report: &Report) -> Result<(), Stop> {
+    text::row(rt, format_args!("lines {}", report.lines))?;
     for (sector, tally) in (1..).zip(report.sectors.iter()) {
-        println!(rt;
-            "sector {sector} accepted {} remainder {} id {} filler {}",
-            tally.accepted, tally.remainder, tally.id, tally.filler,
+        text::row(
+            rt,
+            format_args!(
+                "sector {sector} accepted {} remainder {} id {} filler {}",
+                tally.accepted, tally.remainder, tally.id, tally.filler,
+            ),
         )?;
     }
     for (channel, pixels) in (1..).zip(report.channels.iter()) {
-        println!(rt;
-            "IR{channel} pixels {} sum {} {}",
-            pixels.count,
-            pixels.sum,
-            Limits(pixels.range),
+        text::row(
+            rt,
+            format_args!(
+                "IR{channel} pixels {} sum {} {}",
+                pixels.count,
+                pixels.sum,
+                Limits(pixels.range),
+            ),
         )?;
     }
     Ok(())

@@ -129,7 +129,8 @@ pub fn opened(rt: &HostRuntime, usage: &str, piece: &mut [u8; PIECE]) -> Result<
         names: 1,
         setting: true,
     };
-    let asked = command::asked_for(rt, takes, usage)?;
+    let asked = command::asked_for(rt, takes);
+    command::goes_on(rt, &asked, usage)?;
     named(rt, &asked, asked.first, usage, piece)
 }
 
@@ -153,7 +154,7 @@ pub fn named(
     usage: &str,
     piece: &mut [u8; PIECE],
 ) -> Result<Player, Stop> {
-    let setting = command::setting_at(rt, asked.setting, usage)?;
+    let setting = command::setting_or_refused(rt, asked.setting, usage)?;
     let format = asked.format.unwrap_or(1);
     let mut room = [0; command::WORD];
     let name = name_at(rt, place, &mut room);

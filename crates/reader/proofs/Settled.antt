@@ -9,15 +9,17 @@ use lib.ListN.{length}
 use Rattle.std.specs.Prelude.{Result, Ok, Err}
 use Rattle.std.specs.Result.{IsErrAnd}
 use Rattle.refusals.specs.declared.Refusal.{Refusal}
-use Rattle.refusals.specs.Refusals.{kept, number_of, answer_value}
+use Rattle.refusals.specs.Refusals.{answered, kept, number_of, refuses, answer_number, answer_value}
 use Rattle.refusals.proofs.Numbers.{number_some, answers_is}
+use Rattle.refusals.proofs.Answered.{Tabled, tabled_when, tabled_first, tabled_outside, tabled_short, answered_number}
 use Rattle.refusals.proofs.Words.{kept_some, kept_none}
 use Rattle.reader_bits.specs.Call.{Call, more, whole}
 use Rattle.reader_bits.specs.Phase.{Bench}
 use Rattle.reader_record.specs.declared.State.{State}
 use Rattle.reader.specs.Read.{call_of, call_taken, call_whole, call_state, served_answer, served_taken, served_whole, served_state, read_answer, taken_by, line_by, state_by, ReadOk}
 use Rattle.reader_line.specs.Answers.{call_answer}
-use Rattle.reader_refusals.specs.Refusing.{read_refusal}
+use Rattle.formats.specs.Formats.{line_bytes, format_refusal}
+use Rattle.reader_refusals.specs.Refusing.{largest_setting, read_refusal}
 use Rattle.reader_line.specs.declared.Reading.{Reading}
 use Rattle.reader_line.specs.declared.Reading.TheVariants.{More, Line}
 
@@ -38,6 +40,12 @@ parts : (s : State) (n : ℕ) (b : Bool) (t : ℕ) (z : State) → given (kept n
 unfolding kept
 parts s zero b t z = refl
 parts s (suc n) b t z = refl
+
+-- what is read in an answer, given by its number, where a refusal says nothing
+read_in : {B : Type 0} (v : Result Reading Refusal → B) (nothing : B) → ((e : Refusal) → v (Err e) ≡ nothing) → (n : ℕ) (x : Reading) → v (answered refuses n (Ok x)) ≡ kept n nothing (v (Ok x))
+unfolding answered kept
+read_in v nothing none zero x = refl
+read_in v nothing none (suc n) x = none _
 
 module _ (f k : ℕ) (s : State) (piece buf : List ℕ) where
   abbrev refusal : ℕ
@@ -84,3 +92,16 @@ module _ (f k : ℕ) (s : State) (piece buf : List ℕ) where
       back s (Ok answer) ∙ same_given served.0 served.1 served.2 in
       answers_is refusal (More 0 s) answer r
       (h.number, back s r ∙ same_given h.complete h.taken h.state ∙ parts s refusal _ _ _ ∙ ap (kept refusal (More 0 s)) (sym is))
+
+  tabled : Tabled refusal
+  unfolding read_refusal format_refusal
+  tabled = tabled_first _ _ (tabled_when _ 1 refl) (tabled_first _ _ (tabled_outside 0 largest_setting k 13 refl) (tabled_first _ _ (tabled_when _ 12 refl) (tabled_short (length buf) line_bytes 2 refl)))
+
+  pub read_told : (r : Result Reading Refusal) → r ≡ read_answer f k s piece buf → ReadOk f k s piece buf r
+  unfolding read_answer
+  read_told r e = record {
+    number = ap answer_number e ∙ answered_number refusal answer tabled;
+    taken = ap taken_by e ∙ read_in taken_by 0 (λ d. refl) refusal answer ∙ ap (kept refusal 0) served.1;
+    complete = ap line_by e ∙ read_in line_by false (λ d. refl) refusal answer ∙ ap (kept refusal false) served.0;
+    state = ap (state_by s) e ∙ read_in (state_by s) s (λ d. refl) refusal answer ∙ ap (kept refusal s) served.2;
+  }

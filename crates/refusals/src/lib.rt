@@ -80,7 +80,7 @@ pub fn number_in<T: Copy>(answer: Result<T, Refusal>) -> u8
 }
 
 /// Inner. Of two answers the first that refuses.
-pub fn first(a: Result<(), Refusal>, b: Result<(), Refusal>) -> Result<(), Refusal>
+pub fn first_refused(a: Result<(), Refusal>, b: Result<(), Refusal>) -> Result<(), Refusal>
     ensures { answer_number result ≡ first (answer_number a) (answer_number b) }
 {
     a.and(b)
@@ -104,4 +104,31 @@ pub fn within(low: u64, high: u64, n: u64, refusal: Refusal) -> Result<(), Refus
     } else {
         Ok(())
     }
+}
+
+// The same tests by numbers, for a caller that holds numbers: 0 is no refusal, and any other number is taken as one, also where the
+// table has no such number.
+
+/// Inner. Of two answers the first that is no 0.
+#[tactic(auto, using(crate::proofs::Words::first_none, crate::proofs::Words::first_some))]
+pub fn first(a: u8, b: u8) -> u8
+    ensures { result ≡ first a b }
+{
+    if a == 0 { b } else { a }
+}
+
+/// Inner. The number, 2 or 3, where fewer were given than are needed; else 0.
+#[tactic(auto, unfolding(crate::specs::Refusals::short_of, crate::specs::Refusals::when))]
+pub fn short(given: usize, needed: usize, number: u8) -> u8
+    ensures { result ≡ short_of given needed number }
+{
+    if given < needed { number } else { 0 }
+}
+
+/// Inner. The number, 13, 4, 7 or 10, where n is not one from low to high; else 0. Where low is above high none is.
+#[tactic(auto, unfolding(crate::specs::Refusals::outside_of, crate::specs::Refusals::outside, crate::specs::Refusals::when))]
+pub fn outside(low: u64, high: u64, n: u64, number: u8) -> u8
+    ensures { result ≡ outside_of low high n number }
+{
+    if n < low || high < n { number } else { 0 }
 }

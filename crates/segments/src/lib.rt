@@ -9,11 +9,10 @@
 #![tactic(auto)]
 
 ghost use Rattle.std.specs.Prelude.{◌≡◌};
-ghost use Rattle.refusals.specs.Refusals.{answer_number, Answers};
+ghost use Rattle.refusals.specs.Refusals.{answer_number};
 ghost use Rattle.blocks.specs.Blocks.{block_of};
-ghost use Rattle.revisions.specs.Carried.{revisions_in};
-ghost use Rattle.copies.specs.Copies.{Placeable, place_refusal};
-ghost use Rattle.segments.specs.Assembly.{not_placed, placed_on, place_left, lent_refusal, CarriedOk, AddSegmentOk, add_segment_left};
+ghost use Rattle.copies.specs.Copies.{Placeable};
+ghost use Rattle.segments.specs.Assembly.{place_answer, place_left, lent_refusal, CarriedOk, AddSegmentOk, add_segment_left};
 
 use blocks::assembly::Assembly;
 use blocks::block::{block_of, block_refusal};
@@ -34,7 +33,6 @@ pub struct Placed {
 }
 
 // Inner. A segment in its place: stored and marked where it is new, and the revisions remembered.
-#[tactic(auto, using(refusals::proofs::Lent::lent_ok), unfolding(crate::specs::Assembly::place_left, crate::specs::Assembly::assembly_with, crate::specs::Assembly::marks_with, crate::specs::Assembly::block_with))]
 fn place(
     number: u8,
     assembly: Assembly,
@@ -43,7 +41,7 @@ fn place(
     block: &mut [u8],
 ) -> Result<Placed, Refusal>
     requires { Placeable (block_of number) line.now segment block.old }
-    ensures { Answers (place_refusal number assembly (revisions_in line.now) line.now segment block.old) (not_placed assembly) (placed_on assembly line.now segment) result × (block.new ≡ place_left number assembly line.now segment block.old) }
+    ensures { (result ≡ place_answer number assembly line.now segment block.old) × (block.new ≡ place_left number assembly line.now segment block.old) }
 {
     let carried = revisions_in(line);
     place_refusal(number, assembly, carried, line, segment, block)?;

@@ -47,7 +47,7 @@ fn number_at(
     ensures { IfOk result (λ n. n ≤ most) }
 {
     match place {
-        Some(place) => command::number_at(rt, place, most, what, USAGE),
+        Some(place) => command::number_up_to(rt, place, most, what, USAGE),
         None => Ok(meant),
     }
 }
@@ -58,7 +58,7 @@ fn format_of(rt: &HostRuntime, asked: &Asked) -> Result<u8, Stop> {
         return Ok(asked.format.unwrap_or(1));
     };
     let what = "not the format, 1 to 3: ";
-    let format = command::number_at(rt, place, 3, what, USAGE)? as u8;
+    let format = command::number_up_to(rt, place, 3, what, USAGE)? as u8;
     if format == 0 || asked.format.is_some_and(|other| other != format) {
         return Err(command::refuse_word(rt, what, place, USAGE));
     }
@@ -72,7 +72,8 @@ fn play(rt: &HostRuntime) -> Result<(), Stop> {
         names: 4,
         setting: false,
     };
-    let asked = command::asked_for(rt, takes, USAGE)?;
+    let asked = command::asked_for(rt, takes);
+    command::goes_on(rt, &asked, USAGE)?;
     let lines = number_at(
         rt,
         asked.first,

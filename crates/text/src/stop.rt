@@ -10,13 +10,13 @@ const ROOM: usize = 128;
 /// Why a program stops before it has done all.
 #[derive(Clone, Copy, Debug)]
 pub enum Stop {
-    /// A row cannot be written to standard output.
+    /// What is no row of text cannot be written to standard output.
     Output(io::Error),
     /// Another reason, which has been told where it arose; or help was asked for.
     Told,
 }
 
-// The one call of the system's whose error goes up by itself is the write of a row.
+// The one call of the system's whose error goes up by itself is the write of a recording.
 impl From<io::Error> for Stop {
     fn from(error: io::Error) -> Stop {
         Stop::Output(error)
@@ -37,6 +37,13 @@ pub fn fail(rt: &HostRuntime, what: &[u8], error: &io::Error) -> Stop {
     let _ = Print::write_all(&rt.stderr(), what);
     let _ = eprintln!(rt; ": {cause}");
     Stop::Told
+}
+
+/// A row and the end of its line to standard output, in one write. Where it cannot be written, standard error says so at once, and the
+/// answer is to stop.
+pub fn row<D: Display + Drop>(rt: &HostRuntime, row: D) -> Result<(), Stop> {
+    rt.println(row)
+        .map_err(|error| fail(rt, b"standard output", &error))
 }
 
 /// Inner. Why a program stops, as a line on standard error.

@@ -5,7 +5,7 @@ use mathlib.Core.Logic.{◌⊎◌, inl, inr}
 use mathlib.Core.Path.{◌≡◌, refl, sym, ap, ap₂, ◌∙◌}
 use Prim.Native.Nat.{ℕ}
 use borrow.Author.Tests.{eq-eqb, ne_eqb}
-use lib.Dec.{ltb}
+use lib.Dec.{eqb, ltb}
 use Rattle.std.specs.Prelude.{Option, None, Some}
 use Rattle.std.specs.Option.{is_none}
 use Rattle.words.specs.declared.Word.{Word}
@@ -14,7 +14,7 @@ use Rattle.words.specs.declared.Place.{Place}
 use Rattle.words.specs.declared.Place.TheVariants.{Unasked, Awaited, At}
 use Rattle.words.specs.declared.Takes.{Takes}
 use Rattle.words.specs.declared.Asked.{Asked}
-use Rattle.words.specs.Words.{is_free, is_unasked, unserved, named, formatted, heard}
+use Rattle.words.specs.Words.{is_free, is_unasked, kept, unserved, named, formatted, heard}
 
 -- what such a word does: something to the options, and nothing to the names
 record Touch : Type 0 where
@@ -84,8 +84,16 @@ free_passes : (n : ℕ) (a : Asked) → Free n a → is_free n a.format ≡ true
 free_passes n a (inl e) = ap (is_free n) e
 free_passes n a (inr e) = ap (is_free n) e ∙ eq-eqb n n refl
 
-served : (n : ℕ) (a : Asked) → Free n a → (p : ℕ) → formatted a p n ≡ touched (of_format (Some n)) a
-served n a free p = ap (λ b. cond b (touched (of_format (Some n)) a) (unserved a p)) (free_passes n a free)
+served : (n : ℕ) (a : Asked) → Free n a → (p : ℕ) → formatted a p n ≡ touched (of_format (kept n)) a
+served n a free p = ap (λ b. cond b (touched (of_format (kept n)) a) (unserved a p)) (free_passes n a free)
+
+-- what is kept of format n leaves n free
+kept_free : (n : ℕ) (a : Asked) → a.format ≡ kept n → Free n a
+kept_free n a e = go (eqb n 1) e
+  where
+    go : (b : Bool) → a.format ≡ cond b None (Some n) → Free n a
+    go true h = inl h
+    go false h = inr h
 
 -- another word leaves it so: a format put in that stands there already changes nothing
 still : (n : ℕ) (a b : Asked) → b.format ≡ a.format → Free n a → Free n b
@@ -93,7 +101,8 @@ still n a b e (inl h) = inl (e ∙ h)
 still n a b e (inr h) = inr (e ∙ h)
 
 still_free : (n : ℕ) (w : Word) → Beside n w → (a : Asked) → Free n a → (q : ℕ) (t : Takes) → Free n (heard a q w t)
-still_free n (Format m) e a free q t = inr (ap (λ (k : ℕ). (formatted a q k).format) e ∙ ap (λ (x : Asked). x.format) (served n a free q))
+still_free n (Format m) e a free q t =
+    kept_free n (formatted a q m) (ap (λ (k : ℕ). (formatted a q k).format) e ∙ ap (λ (x : Asked). x.format) (served n a free q))
 still_free n Help e a free q t = still n a (heard a q Help t) refl free
 still_free n Setting e a free q t =
     still n a (heard a q Setting t) (sym (ap (λ (x : Asked). x.format) (late_any (of_format a.format) a q (t.setting && is_unasked a.setting) (record a { setting = Awaited q })))) free
@@ -102,14 +111,15 @@ still_free n Name e a free q t = still n a (heard a q Name t) (sym (ap (λ (x : 
 still_free n Unknown e a free q t = still n a (heard a q Unknown t) refl free
 
 -- and asks for the same once the format stands there
-beside_any : (n : ℕ) (w : Word) → Beside n w → (a : Asked) → Free n a → (q : ℕ) (t : Takes) → touched (of_format (Some n)) (heard a q w t) ≡ heard (touched (of_format (Some n)) a) q w t
+beside_any : (n : ℕ) (w : Word) → Beside n w → (a : Asked) → Free n a → (q : ℕ) (t : Takes) → touched (of_format (kept n)) (heard a q w t) ≡ heard (touched (of_format (kept n)) a) q w t
 beside_any n (Format m) e a free q t =
-    ap (λ (k : ℕ). touched (of_format (Some n)) (formatted a q k)) e ∙ ap (touched (of_format (Some n))) (served n a free q)
-    ∙ sym (served n (touched (of_format (Some n)) a) (inr refl) q) ∙ ap (formatted (touched (of_format (Some n)) a) q) (sym e)
+    ap (λ (k : ℕ). touched (of_format (kept n)) (formatted a q k)) e ∙ ap (touched (of_format (kept n))) (served n a free q)
+    ∙ sym (served n (touched (of_format (kept n)) a) (kept_free n (touched (of_format (kept n)) a) refl) q)
+    ∙ ap (formatted (touched (of_format (kept n)) a) q) (sym e)
 beside_any n Help e a free q t = refl
-beside_any n Setting e a free q t = late_any (of_format (Some n)) a q (t.setting && is_unasked a.setting) _
+beside_any n Setting e a free q t = late_any (of_format (kept n)) a q (t.setting && is_unasked a.setting) _
 beside_any n Number e a free q t = refl
-beside_any n Name e a free q t = named_any (of_format (Some n)) a q t.names
+beside_any n Name e a free q t = named_any (of_format (kept n)) a q t.names
 beside_any n Unknown e a free q t = refl
 
 -- THE THEOREM of `-2` and `-3`, where no other format is asked for
@@ -117,10 +127,10 @@ pub format_anywhere : (n : ℕ) (w : Word) → Beside n w → (a : Asked) → Fr
 format_anywhere n w e a free p q t =
     served n (heard a q w t) (still_free n w e a free q t) p ∙ beside_any n w e a free q t ∙ sym (ap (λ (x : Asked). heard x q w t) (served n a free p))
 
--- TWO DIFFERENT FORMATS: the second is the word that is not served, whichever it is
-pub second_refused : (n m : ℕ) → (n ≡ m → ⊥) → (a : Asked) → Free n a → a.wrong ≡ None → (p q : ℕ) (t : Takes) → (heard (heard a p (Format n) t) q (Format m) t).wrong ≡ Some q
-second_refused n m differ a free none p q t =
-    ap (λ (x : Asked). (formatted x q m).wrong) (served n a free p) ∙ rw (ne_eqb n m differ, none) refl
+-- TWO DIFFERENT FORMATS: the second is the word that is not served, whichever it is. Format 1 as the first asks for nothing.
+pub second_refused : (n m : ℕ) → (n ≡ 1 → ⊥) → (n ≡ m → ⊥) → (a : Asked) → Free n a → a.wrong ≡ None → (p q : ℕ) (t : Takes) → (heard (heard a p (Format n) t) q (Format m) t).wrong ≡ Some q
+second_refused n m other differ a free none p q t =
+    ap (λ (x : Asked). (formatted x q m).wrong) (served n a free p) ∙ rw (ne_eqb n 1 other, ne_eqb n m differ, none) refl
 
 -- ---- `-s` with its number
 

@@ -58,9 +58,13 @@ abbrev pub is_free : ℕ → Option ℕ → Bool
 is_free n None = true
 is_free n (Some m) = eqb m n
 
+-- what is kept of a format that is asked for: nothing of format 1, which is meant where none is
+abbrev pub kept : ℕ → Option ℕ
+kept n = cond (eqb n 1) None (Some n)
+
 -- a format at a place: it is asked for where none was, or the same one; another one is not served
 abbrev pub formatted : Asked → ℕ → ℕ → Asked
-formatted a place n = cond (is_free n a.format) (record a { format = Some n }) (unserved a place)
+formatted a place n = cond (is_free n a.format) (record a { format = kept n }) (unserved a place)
 
 -- `-s` has stood at no place
 abbrev pub is_unasked : Place → Bool

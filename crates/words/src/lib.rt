@@ -43,8 +43,9 @@ pub enum Place {
     At(usize),
 }
 
-/// What the words ask for: the format, whether it is help, the setting, the places of the first four names, and that of the first
-/// word that is not served. Places count from 1: the program's own name stands at 0.
+/// What the words ask for: the format, none for format 1, which is meant where none is asked for; whether it is help; the setting; the
+/// places of the first four names, and that of the first word that is not served. Places count from 1: the program's own name stands
+/// at 0.
 #[derive(Clone, Copy, Debug, PartialEq, Eq)]
 pub struct Asked {
     pub format: Option<u8>,

@@ -33,7 +33,7 @@ fn each_below<T: Stored>(pixels: &[T], n: usize, limit: u32) -> bool
 }
 
 // Inner. Refuses, with 10, where one of the first n pixels is not below the limit, or of all where there are fewer than n.
-fn over<T: Stored>(pixels: &[T], n: usize, limit: u32) -> Result<(), Refusal>
+pub fn over<T: Stored>(pixels: &[T], n: usize, limit: u32) -> Result<(), Refusal>
     ensures { answer_number result ≡ over_of limit (take n (map T.number pixels.now)) }
 {
     if each_below(pixels, n, limit) {

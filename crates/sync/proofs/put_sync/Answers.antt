@@ -1,27 +1,21 @@
 -- `sync::put_sync` meets its contract. Assumes nothing.
 use mathlib.Core.Path.{sym}
 use native.Mathlib.Omega.{arith}
-use Rattle.std.specs.Prelude.{Ok}
+use Rattle.std.specs.Prelude.{Ok, Err}
 use Rattle.bits.proofs.Below.{below_all}
 use Rattle.formats.proofs.Settled.{format_is}
 use Rattle.formats.proofs.Which.{parts}
-use Rattle.refusals.proofs.Lent.{lent_err}
-use Rattle.refusals.proofs.Numbers.{refused_first}
 use Rattle.refusals.proofs.Words.{enough}
-use Rattle.sync.specs.Put.{put_sync_refusal, put_sync_left}
 use Rattle.sync.proofs.Opening.{before_small}
-use Rattle.sync.proofs.Putting.{sync_number, sync_done}
+use Rattle.sync.proofs.Putting.{sync_refused, sync_short, sync_done}
 use Rattle.sync.proofs.put_sync.Goals as goal
 
 pub returns-in_err-f : goal.returns-in_err-f
-unfolding put_sync_refusal put_sync_left
-returns-in_err-f c = lent_err _ _ _ _ _ _ _ c.from_residual.ensures.1 (refused_first _ _ _ c.in_err-f.ensures.0)
+returns-in_err-f c = sync_refused c.args.format c.args.out.now _ _ c.from_residual.ensures.1 (sym (format_is c.args.format (Err _) c.in_err-f.ensures))
 
 pub returns-in_err-enough : goal.returns-in_err-enough
-unfolding put_sync_left
 returns-in_err-enough c =
-    let number = sync_number c.args.format c.args.out.now c.in_ok-f.f c.in_ok-f.ensures _ c.in_err-enough.ensures in
-    lent_err _ _ _ _ _ _ _ c.from_residual-in_err-enough.ensures.1 number
+    sync_short c.args.format c.args.out.now c.in_ok-f.f c.in_ok-f.ensures _ _ c.from_residual-in_err-enough.ensures.1 c.in_err-enough.ensures
 
 pub put_scrambling-requires : goal.put_scrambling-requires
 put_scrambling-requires c =
