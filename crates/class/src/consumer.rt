@@ -82,13 +82,13 @@ impl Consumer {
         let look = Look::of(format, bytes);
         let sees = self.event(time, "sees", line.slot, self.next);
         let seen = text::row(rt, format_args!("{sees} {look}"));
-        let answer = desk::release(*desk, AREA, self.number, line.slot, self.next);
-        *desk = answer.unwrap_or(*desk);
+        let changed = desk::release(*desk, AREA, self.number, line.slot, self.next);
+        *desk = changed.desk;
         let releases = self.event(time, "releases", line.slot, self.next);
         self.last = Some(line.slot);
         self.next = self.next.wrapping_add(1);
         // it releases the line in any case, also where the row before could not be written
-        let released = releases.answered(rt, answer);
+        let released = releases.answered(rt, changed.answer);
         seen.and(released)
     }
 
@@ -98,8 +98,8 @@ impl Consumer {
             return Ok(());
         };
         let serial = self.next.wrapping_sub(1);
-        let answer = desk::release(desk, AREA, self.number, slot, serial);
+        let changed = desk::release(desk, AREA, self.number, slot, serial);
         self.event(time, "releases", slot, serial)
-            .answered(rt, answer)
+            .answered(rt, changed.answer)
     }
 }

@@ -1,5 +1,4 @@
 // The rows that a class writes, one for each event.
-use desk_record::Desk;
 use refusals::Refusal;
 use std::fmt;
 use text::Stop;
@@ -29,9 +28,9 @@ impl fmt::Display for Event {
 
 impl Event {
     /// The row of an event, and what the desk refused it with.
-    pub fn answered(self, rt: &HostRuntime, answer: Result<Desk, Refusal>) -> Result<(), Stop> {
+    pub fn answered(self, rt: &HostRuntime, answer: Result<(), Refusal>) -> Result<(), Stop> {
         match answer {
-            Ok(_) => text::row(rt, self),
+            Ok(()) => text::row(rt, self),
             Err(refusal) => text::row(rt, format_args!("{self} {refusal}")),
         }
     }

@@ -97,7 +97,9 @@ impl Class {
         area: &mut [u8; AREA],
     ) -> Result<(), Stop> {
         let time = self.time;
-        let taken = match desk::take(self.desk, AREA) {
+        let took = desk::take(self.desk, AREA);
+        self.desk = took.desk;
+        let taken = match took.answer {
             Ok(taken) => taken,
             Err(refusal) => {
                 text::row(rt, format_args!("time {time} feeder takes {refusal}"))?;
@@ -109,7 +111,6 @@ impl Class {
                 };
             }
         };
-        self.desk = taken.desk;
         let event = Event {
             time,
             who: "feeder",
@@ -141,13 +142,13 @@ impl Class {
             does: "publishes",
             ..took
         };
-        let answer = desk::publish(self.desk, AREA, took.slot, took.serial);
-        self.desk = answer.unwrap_or(self.desk);
+        let changed = desk::publish(self.desk, AREA, took.slot, took.serial);
+        self.desk = changed.desk;
         if let Some(time) = self.published.get_mut(took.slot) {
             *time = self.time;
         }
         self.lines = took.serial;
-        event.answered(rt, answer)
+        event.answered(rt, changed.answer)
     }
 
     // The last rows: each consumer releases its last line once more, the old fault.
@@ -174,7 +175,7 @@ fn lag(rt: &HostRuntime, place: usize) -> Result<u64, Stop> {
 // A desk of as many slots as the word at a place says.
 fn desk_of(rt: &HostRuntime, place: usize) -> Result<Desk, Stop> {
     let slots = command::number_at(rt, Some(place), 0).unwrap_or(0);
-    desk::fresh(slots as usize).map_err(|refusal| {
+    desk::fresh_or_refused(slots as usize).map_err(|refusal| {
         text::told(rt, format_args!("a desk has 2 to 8 slots: {refusal}"))
     })
 }

@@ -29,7 +29,7 @@ use Rattle.write_refusals.specs.Refusing.{over_of, input_short, put_data_answer,
 use Rattle.report_record.specs.Possible.{record_refusal}
 use Rattle.report.specs.Calls.{full_refusal, with_line_refusal, together_refusal}
 use Rattle.desk_refusals.specs.Asked.{count_refusal}
-use Rattle.desk.specs.Calls.{fresh_answer}
+use Rattle.desk.specs.Calls.{fresh_answer, fresh_or_refused_answer}
 use Rattle.desk_record.specs.Desks.{empty_desk}
 use Rattle.refusals.proofs.Answered.{answered_number, tabled_outside}
 use Rattle.histories.proofs.Refused.{take_tests_is, publish_tests, release_tests}
@@ -153,7 +153,7 @@ added_when f a line n block =
 -- ---- the list
 
 pub orders : Orders
-unfolding first_of short_of outside_of with_line_refusal together_refusal fresh_answer count_refusal record_refusal full_refusal step_refusal put_sync_refusal filler_refusal integer_field_refusal bcd_field_refusal real_field_refusal read_refusal write_line_refusal accepted_answer line_refusal asked_of answer_of answers_refusal values_refusal data_answer pixels_answer joined_answer strip_refusal input_short put_data_answer read_integer_refusal read_bcd_refusal read_real_refusal form_refusal put_real_refusal put_pixels_answer line_numbers_refusal date_refusal doc_part sub_commutation_refusal segment_refusal marks_refusal block_refusal unfinished_refusal entry_refusal grid_refusal level_refusal
+unfolding first_of short_of outside_of with_line_refusal together_refusal fresh_answer fresh_or_refused_answer count_refusal record_refusal full_refusal step_refusal put_sync_refusal filler_refusal integer_field_refusal bcd_field_refusal real_field_refusal read_refusal write_line_refusal accepted_answer line_refusal asked_of answer_of answers_refusal values_refusal data_answer pixels_answer joined_answer strip_refusal input_short put_data_answer read_integer_refusal read_bcd_refusal read_real_refusal form_refusal put_real_refusal put_pixels_answer line_numbers_refusal date_refusal doc_part sub_commutation_refusal segment_refusal marks_refusal block_refusal unfinished_refusal entry_refusal grid_refusal level_refusal
 orders = record {
   format-of = λ f. record { by_table = refl; given = simp (refused_when, first_zero) refl };
   step = λ register. record { by_table = refl; given = sym (first_zero _) };
@@ -171,7 +171,10 @@ orders = record {
   put_data = λ f long n given. record { by_table = refl; given = simp (refused_when, first_assoc, first_zero) refl };
   with_line = λ f r given. record { by_table = refl; given = simp (refused_when, first_zero) refl };
   together = λ a b. record { by_table = refl; given = simp (first_assoc, first_zero) refl };
-  fresh_desk = λ count. record { by_table = refl; given = answered_number (outside_of 2 8 count 19) (empty_desk count) (tabled_outside 2 8 count 19 refl) ∙ simp (first_zero) refl };
+  fresh_desk = λ count. (
+    record { by_table = refl; given = answered_number (outside_of 2 8 count 19) tt (tabled_outside 2 8 count 19 refl) ∙ simp (first_zero) refl },
+    record { by_table = refl; given = answered_number (outside_of 2 8 count 19) (empty_desk count) (tabled_outside 2 8 count 19 refl) ∙ simp (first_zero) refl },
+  );
   take = λ d area. record { by_table = refl; given = take_tests_is d area };
   publish = λ d area i n. record { by_table = refl; given = publish_tests d area i n };
   release = λ d area c i n. record { by_table = refl; given = release_tests d area c i n };

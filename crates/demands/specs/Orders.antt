@@ -28,7 +28,7 @@ use Rattle.report.specs.Calls.{with_line_refusal, together_refusal}
 use Rattle.desk_record.specs.declared.Desk.{Desk}
 use Rattle.desk_record.specs.Slots.{slot_of, filling_as, held_by}
 use Rattle.desk_refusals.specs.Asked.{take_refusal, publish_refusal, release_refusal}
-use Rattle.desk.specs.Calls.{fresh_answer}
+use Rattle.desk.specs.Calls.{fresh_answer, fresh_or_refused_answer}
 use Rattle.histories.specs.Tests.{take_tests, slot_tests}
 use Rattle.numbers.specs.Integers.{read_integer_refusal}
 use Rattle.numbers.specs.Decimals.{some_over9, digits_in, read_bcd_refusal}
@@ -168,7 +168,8 @@ pub record Orders : Type 0 where
       → Gives (with_line_refusal f r given) (format_test f ∷ report_test r ∷ full_test r.lines 1 ∷ (2, ltb given line_bytes) ∷ [])
   -- of the first, and then of the second
   pub together : (a b : Report) → Gives (together_refusal a b) (report_test a ∷ report_test b ∷ full_test a.lines b.lines ∷ [])
-  pub fresh_desk : (count : ℕ) → Gives (answer_number (fresh_answer count)) ((19, outside 2 8 count) ∷ [])
+  pub fresh_desk : (count : ℕ) → Gives (answer_number (fresh_answer count).answer) ((19, outside 2 8 count) ∷ [])
+      × Gives (answer_number (fresh_or_refused_answer count)) ((19, outside 2 8 count) ∷ [])
   pub take : (d : Desk) (area : ℕ) → Gives (take_refusal d area) (take_tests d area)
   pub publish : (d : Desk) (area i n : ℕ) → Gives (publish_refusal d area i n) (slot_tests d area i (filling_as n (slot_of d i)))
   -- release and `seen`

@@ -10,11 +10,14 @@ use Rattle.reader_record.specs.declared.State.{State}
 use Rattle.reader.specs.Read.{taken_by, line_by, state_by}
 use Rattle.reader_line.specs.declared.Reading.{Reading}
 use Rattle.report_record.specs.declared.Report.{Report}
-use Rattle.report.specs.Calls.{with_line_answer, together_answer, report_after}
+use Rattle.report.specs.declared.Reported.{Reported}
+use Rattle.report.specs.Calls.{reported, with_line_answer, together_answer}
 use Rattle.desk_record.specs.declared.Desk.{Desk}
-use Rattle.desk.specs.declared.Taken.{Taken}
+use Rattle.desk_record.specs.Desks.{empty_desk}
+use Rattle.desk.specs.declared.Changed.{Changed}
+use Rattle.desk.specs.declared.SlotTaken.{SlotTaken}
 use Rattle.desk.specs.declared.Part.{Part}
-use Rattle.desk.specs.Calls.{take_answer, publish_answer, release_answer, seen_answer, desk_after, take_after, part_seen}
+use Rattle.desk.specs.Calls.{changed, slot_taken, fresh_answer, take_answer, publish_answer, release_answer, seen_answer, take_after, part_seen}
 use Rattle.blocks.specs.declared.assembly.Assembly.{Assembly}
 use Rattle.segments.specs.Assembly.{assembly_after}
 use Rattle.segments.specs.declared.Placed.{Placed}
@@ -51,11 +54,15 @@ pub record Refusals : Type 0 where
   pub strip : (f : ℕ) (line out : List ℕ) → Keeps answer_number (Strip f line out) out
   pub put_data : (f : ℕ) (line : List ℕ) (sector : ℕ) (bytes : List ℕ) → KeepsBytes (PutData f line sector bytes) line
   pub put_pixels : (lo hi f : ℕ) (line : List ℕ) (sector : ℕ) (ps : List ℕ) → KeepsBytes (PutPixels lo hi f line sector ps) line
-  pub with_line : (f : ℕ) (report : Report) (line : List ℕ) (r : Result Report Refusal) → r ≡ with_line_answer f report line → Refuses (answer_number r) → report_after report r ≡ report
-  pub together : (a b : Report) (r : Result Report Refusal) → r ≡ together_answer a b → Refuses (answer_number r) → report_after a r ≡ a
-  pub take : (d : Desk) (area : ℕ) (r : Result Taken Refusal) → r ≡ take_answer d area → Refuses (answer_number r) → ((take_after d r).desk ≡ d) × ((take_after d r).slot ≡ 0) × ((take_after d r).serial ≡ 0)
-  pub publish : (d : Desk) (area i n : ℕ) (r : Result Desk Refusal) → r ≡ publish_answer d area i n → Refuses (answer_number r) → desk_after d r ≡ d
-  pub release : (d : Desk) (area c i n : ℕ) (r : Result Desk Refusal) → r ≡ release_answer d area c i n → Refuses (answer_number r) → desk_after d r ≡ d
+  pub with_line : (f : ℕ) (report : Report) (line : List ℕ) (r : Reported) → r ≡ reported report (with_line_answer f report line) → Refuses (answer_number r.answer) → r.report ≡ report
+  pub together : (a b : Report) (r : Reported) → r ≡ reported a (together_answer a b) → Refuses (answer_number r.answer) → r.report ≡ a
+  -- there is no desk to give back: it is an empty one of the count that was asked for
+  pub fresh_desk : (count : ℕ) (r : Changed) → r ≡ fresh_answer count → Refuses (answer_number r.answer) → r.desk ≡ empty_desk count
+  -- and no slot is taken
+  pub take : (d : Desk) (area : ℕ) (r : SlotTaken) → r ≡ slot_taken d (take_answer d area) → Refuses (answer_number r.answer)
+      → (r.desk ≡ d) × ((take_after d r.answer).slot ≡ 0) × ((take_after d r.answer).serial ≡ 0)
+  pub publish : (d : Desk) (area i n : ℕ) (r : Changed) → r ≡ changed d (publish_answer d area i n) → Refuses (answer_number r.answer) → r.desk ≡ d
+  pub release : (d : Desk) (area c i n : ℕ) (r : Changed) → r ≡ changed d (release_answer d area c i n) → Refuses (answer_number r.answer) → r.desk ≡ d
   -- and no part of the area is given
   pub seen : (d : Desk) (area c i n : ℕ) (r : Result Part Refusal) → r ≡ seen_answer d area c i n → Refuses (answer_number r) → ((part_seen r).from ≡ 0) × ((part_seen r).to ≡ 0)
   pub put_real : (negative : Bool) (magnitude n m : ℕ) (out : List ℕ) → Keeps answer_number (PutReal negative magnitude n m out) out

@@ -13,11 +13,14 @@ use Rattle.reader_record.specs.declared.State.{State}
 use Rattle.sectors.specs.Calls.{accepted_answer, AnswersOk, FillerOk}
 use Rattle.report_record.specs.declared.Report.{Report}
 use Rattle.report_record.specs.Report.{empty_report}
-use Rattle.report.specs.Calls.{with_line_answer, together_answer}
+use Rattle.report.specs.declared.Reported.{Reported}
+use Rattle.report.specs.Calls.{reported, with_line_answer, together_answer}
 use Rattle.desk_record.specs.declared.Desk.{Desk}
+use Rattle.desk.specs.declared.Changed.{Changed}
+use Rattle.desk.specs.declared.SlotTaken.{SlotTaken}
 use Rattle.desk.specs.declared.Taken.{Taken}
 use Rattle.desk.specs.declared.Part.{Part}
-use Rattle.desk.specs.Calls.{fresh_answer, take_answer, publish_answer, release_answer, seen_answer}
+use Rattle.desk.specs.Calls.{changed, slot_taken, fresh_answer, fresh_or_refused_answer, take_answer, publish_answer, release_answer, seen_answer}
 use Rattle.numbers.specs.Integers.{ReadIntegerOk}
 use Rattle.numbers.specs.Decimals.{ReadBcdOk}
 use Rattle.numbers.specs.Reals.{ReadRealOk}
@@ -75,13 +78,19 @@ pub record Unique : Type 0 where
   pub put_pixels_wide : (f : ℕ) (line : List ℕ) (sector : ℕ) (ps : List ℕ) → OneInBytes (PutPixels 12 12 f line sector ps)
   -- the pass report
   pub empty : One (λ (r : Report). r ≡ empty_report)
-  pub with_line : (f : ℕ) (report : Report) (line : List ℕ) → One (λ (r : Result Report Refusal). r ≡ with_line_answer f report line)
-  pub together : (a b : Report) → One (λ (r : Result Report Refusal). r ≡ together_answer a b)
+  pub with_line : (f : ℕ) (report : Report) (line : List ℕ) → One (λ (r : Reported). r ≡ reported report (with_line_answer f report line))
+  pub together : (a b : Report) → One (λ (r : Reported). r ≡ reported a (together_answer a b))
+  pub with_line_or_refused : (f : ℕ) (report : Report) (line : List ℕ) → One (λ (r : Result Report Refusal). r ≡ with_line_answer f report line)
+  pub together_or_refused : (a b : Report) → One (λ (r : Result Report Refusal). r ≡ together_answer a b)
   -- the line desk
-  pub fresh_desk : (count : ℕ) → One (λ (r : Result Desk Refusal). r ≡ fresh_answer count)
-  pub take : (d : Desk) (area : ℕ) → One (λ (r : Result Taken Refusal). r ≡ take_answer d area)
-  pub publish : (d : Desk) (area i n : ℕ) → One (λ (r : Result Desk Refusal). r ≡ publish_answer d area i n)
-  pub release : (d : Desk) (area c i n : ℕ) → One (λ (r : Result Desk Refusal). r ≡ release_answer d area c i n)
+  pub fresh_desk : (count : ℕ) → One (λ (r : Changed). r ≡ fresh_answer count)
+  pub take : (d : Desk) (area : ℕ) → One (λ (r : SlotTaken). r ≡ slot_taken d (take_answer d area))
+  pub publish : (d : Desk) (area i n : ℕ) → One (λ (r : Changed). r ≡ changed d (publish_answer d area i n))
+  pub release : (d : Desk) (area c i n : ℕ) → One (λ (r : Changed). r ≡ changed d (release_answer d area c i n))
+  pub fresh_or_refused : (count : ℕ) → One (λ (r : Result Desk Refusal). r ≡ fresh_or_refused_answer count)
+  pub take_or_refused : (d : Desk) (area : ℕ) → One (λ (r : Result Taken Refusal). r ≡ take_answer d area)
+  pub publish_or_refused : (d : Desk) (area i n : ℕ) → One (λ (r : Result Desk Refusal). r ≡ publish_answer d area i n)
+  pub release_or_refused : (d : Desk) (area c i n : ℕ) → One (λ (r : Result Desk Refusal). r ≡ release_answer d area c i n)
   pub seen : (d : Desk) (area c i n : ℕ) → One (λ (r : Result Part Refusal). r ≡ seen_answer d area c i n)
   -- numbers
   pub read_integer : (n : ℕ) (bytes : List ℕ) → One (ReadIntegerOk n bytes)

@@ -1,6 +1,7 @@
 -- What each call of the line desk answers, for every input: its number, which `desk_refusals` has, and what becomes of the desk.
 -- Assumes nothing.
 use Rattle.std.specs.Prelude.{true, ℕ, suc, ◌+◌, ◌*◌, Result, Ok}
+use Rattle.std.specs.Result.{result_and}
 use Rattle.refusals.specs.declared.Refusal.{Refusal}
 use Rattle.refusals.specs.Refusals.{answered, refuses, answer_value}
 use Rattle.formats.specs.Formats.{line_bytes}
@@ -9,12 +10,18 @@ use Rattle.desk_record.specs.declared.Desk.{Desk}
 use Rattle.desk_record.specs.Slots.{slot_of, let_go}
 use Rattle.desk_record.specs.Desks.{lowest_of, empty_desk, with_slot, taken_desk}
 use Rattle.desk_refusals.specs.Asked.{count_refusal, take_refusal, publish_refusal, release_refusal}
+use Rattle.desk.specs.declared.Changed.{Changed}
+use Rattle.desk.specs.declared.SlotTaken.{SlotTaken}
 use Rattle.desk.specs.declared.Taken.{Taken}
 use Rattle.desk.specs.declared.Part.{Part}
 
--- an empty desk of so many slots
-unfoldable pub fresh_answer : ℕ → Result Desk Refusal
-fresh_answer count = answered refuses (count_refusal (empty_desk count)) (Ok (empty_desk count))
+-- fresh: an empty desk of so many slots, refused or not
+unfoldable pub fresh_answer : ℕ → Changed
+fresh_answer count = record { answer = answered refuses (count_refusal (empty_desk count)) (Ok tt); desk = empty_desk count }
+
+-- and for a caller that goes on only with a desk that serves
+unfoldable pub fresh_or_refused_answer : ℕ → Result Desk Refusal
+fresh_or_refused_answer count = answered refuses (count_refusal (empty_desk count)) (Ok (empty_desk count))
 
 -- take: the lowest free slot, under the next serial number
 abbrev pub taken_of : Desk → Taken
@@ -38,12 +45,20 @@ part_of_slot i = record { from = i * line_bytes; to = i * line_bytes + line_byte
 unfoldable pub seen_answer : Desk → ℕ → ℕ → ℕ → ℕ → Result Part Refusal
 seen_answer d area c i n = answered refuses (release_refusal d area c i n) (Ok (part_of_slot i))
 
--- what a call leaves: the desk, as it was where the call is refused; then no slot is taken, and no part may be read
+-- what a call leaves: the desk, as it was where the call is refused; then no slot is taken
 abbrev pub desk_after : Desk → Result Desk Refusal → Desk
 desk_after was r = answer_value was r
 
 abbrev pub take_after : Desk → Result Taken Refusal → Taken
 take_after was r = answer_value (record { slot = 0; serial = 0; desk = was }) r
 
+-- what a call gives that is handed a desk: its answer, and what it leaves
+abbrev pub changed : Desk → Result Desk Refusal → Changed
+changed was r = record { answer = result_and r (Ok tt); desk = desk_after was r }
+
+abbrev pub slot_taken : Desk → Result Taken Refusal → SlotTaken
+slot_taken was r = record { answer = r; desk = (take_after was r).desk }
+
+-- the part that may be read once `seen` has answered
 abbrev pub part_seen : Result Part Refusal → Part
 part_seen r = answer_value (record { from = 0; to = 0 }) r

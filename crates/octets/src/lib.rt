@@ -25,7 +25,7 @@ pub fn copy(a: &[u8], from: usize, n: usize, b: &mut [u8], at: usize)
     requires { (from + n ≤ length a.now) × (at + n ≤ length b.old) }
     ensures { b.new ≡ take at b.old ++ stretch a.now from n ++ drop (at + n) b.old }
 {
-    // byte by byte, which is compiled to `memcpy`: `copy_from_slice` is to `memmove`, a name that users of the archive would have to have
+    // byte by byte: `copy_from_slice` is compiled to `memmove`, a name that users of the archive would have to have
     for i in 0..n {
         b[at + i] = a[from + i];
     }

@@ -73,12 +73,14 @@ fn report(rt: &HostRuntime) -> Result<(), Stop> {
             write_report(rt, &report)?;
             break;
         }
-        report = report::with_line(player.format, report, &line).map_err(|refusal| {
+        let reported = report::with_line(player.format, report, &line);
+        reported.answer.map_err(|refusal| {
             text::told(
                 rt,
                 format_args!("line {number} is one more than a report takes: {refusal}"),
             )
         })?;
+        report = reported.report;
     }
     Ok(())
 }

@@ -14,7 +14,7 @@ pub struct Rest {
 }
 
 impl Rest {
-    /// The first bytes of a piece, where there are any.
+    /// Inner. The first bytes of a piece, where there are any.
     pub fn first(count: usize) -> Option<Rest>
         requires { count ≤ 65536 }
     {

@@ -79,7 +79,7 @@ part_given (Err e) = record { refused = number_of e; from = 0; to = 0 }
 -- ---- THE CALLS: those of `desk` on the desk that was handed over
 
 unfoldable pub fresh_of : ℕ → DeskAnswer
-fresh_of count = record { refused = answer_number (fresh_answer count); desk = record { count = count; last = 0; slots = replicate 8 no_slot } }
+fresh_of count = record { refused = answer_number (fresh_answer count).answer; desk = record { count = count; last = 0; slots = replicate 8 no_slot } }
 
 unfoldable pub take_of : LineDesk → ℕ → TakenAnswer
 take_of d area = taken_given d (take_answer (desk_handed d) area)

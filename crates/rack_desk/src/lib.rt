@@ -166,7 +166,7 @@ pub fn hansobrik_fresh_desk(count: u32) -> DeskAnswer
         holders: 0,
     };
     DeskAnswer {
-        refused: number_in(desk::fresh(count as usize)),
+        refused: number_in(desk::fresh(count as usize).answer),
         desk: LineDesk {
             count,
             last: 0,
@@ -180,7 +180,7 @@ pub fn hansobrik_fresh_desk(count: u32) -> DeskAnswer
 pub fn hansobrik_take(desk: LineDesk, area: usize) -> TakenAnswer
     ensures { result ≡ take_of desk area }
 {
-    match desk::take(Desk::from(desk), area) {
+    match desk::take_or_refused(Desk::from(desk), area) {
         Ok(taken) => TakenAnswer {
             refused: 0,
             serial: taken.serial,
@@ -201,7 +201,7 @@ pub fn hansobrik_take(desk: LineDesk, area: usize) -> TakenAnswer
 pub fn hansobrik_publish(desk: LineDesk, area: usize, slot: usize, serial: u32) -> DeskAnswer
     ensures { result ≡ publish_of desk area slot serial }
 {
-    match desk::publish(Desk::from(desk), area, slot, serial) {
+    match desk::publish_or_refused(Desk::from(desk), area, slot, serial) {
         Ok(after) => DeskAnswer {
             refused: 0,
             desk: desk_left(desk, after, slot),
@@ -224,7 +224,7 @@ pub fn hansobrik_release(
 ) -> DeskAnswer
     ensures { result ≡ release_of desk area consumer slot serial }
 {
-    match desk::release(Desk::from(desk), area, consumer, slot, serial) {
+    match desk::release_or_refused(Desk::from(desk), area, consumer, slot, serial) {
         Ok(after) => DeskAnswer {
             refused: 0,
             desk: desk_left(desk, after, slot),

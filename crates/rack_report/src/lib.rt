@@ -210,7 +210,7 @@ pub fn hansobrik_with_line(format: u8, report: PassReport, line: &[u8]) -> Repor
     }
     answer_given(
         report,
-        report::with_line(format, Report::from(report), line),
+        report::with_line_or_refused(format, Report::from(report), line),
     )
 }
 
@@ -224,6 +224,6 @@ pub fn hansobrik_together(first: PassReport, second: PassReport) -> ReportAnswer
     }
     answer_given(
         first,
-        report::together(Report::from(first), Report::from(second)),
+        report::together_or_refused(Report::from(first), Report::from(second)),
     )
 }

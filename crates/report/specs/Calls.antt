@@ -1,5 +1,6 @@
 -- What each call of the report answers, for every input. Refusals stand in the order in which they are tested. Assumes nothing.
 use Rattle.std.specs.Prelude.{ℕ, ◌+◌, List, [], ◌∷◌, ltb, length, Result, Ok}
+use Rattle.std.specs.Result.{result_and}
 use Rattle.refusals.specs.declared.Refusal.{Refusal}
 use Rattle.refusals.specs.Refusals.{first, when, short_of, answered, refuses, answer_value}
 use Rattle.formats.specs.Formats.{line_bytes, format_refusal}
@@ -7,6 +8,7 @@ use Rattle.bits.specs.Bits.{bits_of}
 use Rattle.report_record.specs.declared.Report.{Report}
 use Rattle.report_record.specs.Report.{report_of, added}
 use Rattle.report_record.specs.Possible.{most_lines, record_refusal}
+use Rattle.report.specs.declared.Reported.{Reported}
 
 -- 15: so many lines and so many more are over the limit
 unfoldable pub full_refusal : ℕ → ℕ → ℕ
@@ -15,6 +17,10 @@ full_refusal lines more = when (ltb most_lines (lines + more)) 15
 -- what a call leaves: the record, as it was where the call is refused
 abbrev pub report_after : Report → Result Report Refusal → Report
 report_after was r = answer_value was r
+
+-- what a call gives that is handed a record: its answer, and what it leaves
+abbrev pub reported : Report → Result Report Refusal → Reported
+reported was r = record { answer = result_and r (Ok tt); report = report_after was r }
 
 -- ---- with_line: 1, 12, 15, 2
 unfoldable pub with_line_refusal : ℕ → Report → ℕ → ℕ

@@ -1,4 +1,4 @@
--- `report::with_line` meets its contract: what passed the tests is possible, and so is the report of one line. Assumes nothing.
+-- `report::with_line_or_refused` meets its contract: what passed the tests is possible, and so is the report of one line. Assumes nothing.
 use mathlib.Core.Path.{◌≡◌, sym, ap, subst, ◌∙◌}
 use mathlib.Core.Bool.{true}
 use mathlib.Core.List.{[], ◌∷◌}
@@ -14,7 +14,7 @@ use Rattle.report_record.specs.Possible.{possible_report}
 use Rattle.report.specs.Calls.{with_line_answer}
 use Rattle.report_line.proofs.Passing.{report_passes}
 use Rattle.report.proofs.Answers.{line_served}
-use Rattle.report.proofs.with_line.Goals as goal
+use Rattle.report.proofs.with_line_or_refused.Goals as goal
 
 pub line_report-requires : goal.line_report-requires
 line_report-requires c = (line_served _ _ _ (sym c.in_ok-with_line_refusal.ensures)).long
