@@ -1,17 +1,22 @@
 -- The answer of a call by its number, and what is known once it is not refused. Assumes nothing.
-use mathlib.Core.Path.{◌≡◌, sym}
-use mathlib.Core.Bool.{true}
+use mathlib.Core.Path.{◌≡◌, refl, sym}
+use mathlib.Core.Bool.{true, not}
+use mathlib.Core.List.{List, [], ◌∷◌}
 use Prim.Native.Nat.{ℕ, ◌+◌, ◌≤◌, ◌<◌}
 use native.Mathlib.Omega.{arith}
 use lib.Dec.{ltb}
 use borrow.Author.Tests.{le-ltb, lt-ltb, ltb-false}
-use Rattle.refusals.specs.Refusals.{first, short_of}
+use lib.ListN.{length}
+use Rattle.refusals.specs.Refusals.{first, when, short_of, answer_number}
+use Rattle.refusals.proofs.Answered.{Tabled, tabled_when, tabled_first, tabled_short, answered_number}
 use Rattle.refusals.proofs.Words.{none_first, none_second, none_when, when_true, when_false, enough}
-use Rattle.formats.specs.Formats.{line_bytes, format_refusal}
+use Rattle.formats.specs.Formats.{unknown, line_bytes, format_refusal}
+use Rattle.bits.specs.Bits.{bits_of}
 use Rattle.report_record.specs.declared.Report.{Report}
 use Rattle.report_record.specs.Possible.{most_lines, possible_report, record_refusal}
 use Rattle.report_record.proofs.Possible.{record_none}
-use Rattle.report.specs.Calls.{full_refusal, with_line_refusal, together_refusal}
+use Rattle.report_record.specs.Report.{report_of, added}
+use Rattle.report.specs.Calls.{full_refusal, with_line_refusal, with_line_answer, together_refusal, together_answer}
 
 -- ---- 15
 
@@ -26,6 +31,37 @@ full_within lines more h = sym (when_false (ltb most_lines (lines + more)) 15 (l
 pub full_none : (lines more : ℕ) → full_refusal lines more ≡ 0 → lines + more ≤ most_lines
 unfolding full_refusal
 full_none lines more e = ltb-false most_lines (lines + more) (none_when (ltb most_lines (lines + more)) 15 (λ z. omega arith) e)
+
+-- ---- the number of an answer is that of its chain, whose numbers are those of the table
+
+full_tabled : (lines more : ℕ) → Tabled (full_refusal lines more)
+unfolding full_refusal
+full_tabled lines more = tabled_when (ltb most_lines (lines + more)) 15 refl
+
+record_tabled : (r : Report) → Tabled (record_refusal r)
+unfolding record_refusal
+record_tabled r = tabled_when (not (possible_report r)) 12 refl
+
+format_tabled : (f : ℕ) → Tabled (format_refusal f)
+unfolding format_refusal
+format_tabled f = tabled_when (unknown f) 1 refl
+
+pub with_line_number : (f : ℕ) (r : Report) (line : List ℕ) → answer_number (with_line_answer f r line) ≡ with_line_refusal f r (length line)
+unfolding with_line_answer with_line_refusal
+with_line_number f r line =
+    let room : ℕ = short_of (length line) line_bytes 2 in
+    let full : ℕ = full_refusal r.lines 1 in
+    answered_number (first (format_refusal f) (first (record_refusal r) (first full room))) (added r (report_of f (bits_of line ∷ [])))
+    (tabled_first (format_refusal f) (first (record_refusal r) (first full room)) (format_tabled f)
+    (tabled_first (record_refusal r) (first full room) (record_tabled r)
+    (tabled_first full room (full_tabled r.lines 1) (tabled_short (length line) line_bytes 2 refl))))
+
+pub together_number : (a b : Report) → answer_number (together_answer a b) ≡ together_refusal a b
+unfolding together_answer together_refusal
+together_number a b =
+    let both : ℕ = first (record_refusal a) (record_refusal b) in
+    answered_number (first both (full_refusal a.lines b.lines)) (added a b)
+    (tabled_first both (full_refusal a.lines b.lines) (tabled_first (record_refusal a) (record_refusal b) (record_tabled a) (record_tabled b)) (full_tabled a.lines b.lines))
 
 -- ---- not refused
 
