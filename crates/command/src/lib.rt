@@ -4,7 +4,8 @@
 // and settings are up to their largest, and that no program goes on past a word that is not served or a call for help.
 #![tactic(auto)]
 
-ghost use Rattle.std.specs.Prelude.{◌≡◌, ◌≤◌, length, None, Some, false, IsSome, IfSome, IfOk};
+ghost use Rattle.std.specs.Prelude.{◌≡◌, ◌≤◌, length, None, Some, Ok, true, false, IsSome, IfSome, IfOk};
+ghost use Rattle.words.specs.Words.{is_unasked, awaits_number};
 
 use std::env::{Env, FillError};
 use std::io::Print;
@@ -137,17 +138,31 @@ pub fn setting_at(rt: &impl Env, setting: Place) -> Option<u8>
     }
 }
 
-/// The setting that is asked for, 0 where none is. A word that is no setting is refused with the usage text.
+/// The setting that is asked for, 0 where none is. A -s that still awaits its number asks for none; behind the last word it is one that
+/// is not served, and `goes_on` refuses it. A word that is no setting is refused with the usage text.
 pub fn setting_or_refused(rt: &HostRuntime, setting: Place, usage: &str) -> Result<u8, Stop>
-    ensures { IfOk result (λ k. k ≤ 6) }
+    ensures unasked { is_unasked setting ≡ true → result ≡ Ok 0 }
+    ensures awaited { awaits_number setting ≡ true → result ≡ Ok 0 }
+    ensures bound { IfOk result (λ k. k ≤ 6) }
 {
-    match place_of(setting) {
-        Some(place) => setting_at(rt, setting).ok_or_else(|| refuse_word(
+    match setting {
+        Place::Unasked => Ok(0),
+        Place::Awaited(_) => Ok(0),
+        Place::At(place) => setting_at(rt, setting).ok_or_else(|| refuse_word(
             rt,
             "not a setting, 0 to 6: ",
             place,
             usage,
         )),
-        None => Ok(0),
     }
+}
+
+#[test]
+fn a_setting_is_refused_only_where_a_word_is_to_say_it(rt: HostRuntime) {
+    for setting in [Place::Unasked, Place::Awaited(1)] {
+        let answer = setting_or_refused(&rt, setting, "usage\n");
+        assert!(rt; answer.is_ok_and(|k| k == 0));
+    }
+    // so many words a test is not given: what stands there is no setting
+    assert!(rt; setting_or_refused(&rt, Place::At(1000), "usage\n").is_err());
 }

@@ -2,12 +2,14 @@
 // programs that say something of each line stand on it.
 //
 // What it reads is the operating system's, and no contract can speak of it: of these functions it is proved that they are
-// safe and end, and that the places in the piece are right. What a line is is proved of `reader`.
+// safe and end, that the places in the piece are right, and that `named` plays with a setting of 0 to 6. What a line is is proved of
+// `reader`.
 //
 // A piece is a buffer of a fixed size, which the program lends: the programs take no memory.
 #![tactic(auto)]
 
-ghost use Rattle.std.specs.Prelude.{◌≡◌};
+ghost use Rattle.std.specs.Prelude.{◌≡◌, ◌≤◌, true, IfOk};
+ghost use Rattle.words.specs.Words.{is_unasked, awaits_number};
 ghost use Rattle.player.specs.Playing.{started};
 
 use reader_line::Reading;
@@ -49,7 +51,9 @@ pub fn start(source: Source, format: u8, setting: u8) -> Player
 
 impl Player {
     // The next piece, in one call of the system's. Nothing is the recording's end.
-    fn refill(&mut self, piece: &mut [u8; PIECE]) -> io::Result<()> {
+    fn refill(&mut self, piece: &mut [u8; PIECE]) -> io::Result<()>
+        ensures { self.new.setting ≡ self.old.setting }
+    {
         let got = match &mut self.source {
             Some(source) => source.read(piece)?,
             None => 0,
@@ -116,7 +120,9 @@ fn begun(
     format: u8,
     setting: u8,
     piece: &mut [u8; PIECE],
-) -> io::Result<Player> {
+) -> io::Result<Player>
+    ensures { IfOk result (λ p. p.setting ≡ setting) }
+{
     let mut player = start(Source::open(rt, name)?, format, setting);
     player.refill(piece)?;
     Ok(player)
@@ -146,14 +152,19 @@ fn name_at<'a>(
     }
 }
 
-/// The recording that the word at a place names, of words that are served; standard input where there is none.
+/// The recording that the word at a place names, of words that are served; standard input where there is none. A -s that still awaits
+/// its number asks for no setting.
 pub fn named(
     rt: &HostRuntime,
     asked: &Asked,
     place: Option<usize>,
     usage: &str,
     piece: &mut [u8; PIECE],
-) -> Result<Player, Stop> {
+) -> Result<Player, Stop>
+    ensures unasked { is_unasked asked.now.setting ≡ true → IfOk result (λ p. p.setting ≡ 0) }
+    ensures awaited { awaits_number asked.now.setting ≡ true → IfOk result (λ p. p.setting ≡ 0) }
+    ensures bound { IfOk result (λ p. p.setting ≤ 6) }
+{
     let setting = command::setting_or_refused(rt, asked.setting, usage)?;
     let format = asked.format.unwrap_or(1);
     let mut room = [0; command::WORD];
@@ -163,4 +174,16 @@ pub fn named(
         source::called(name),
         &error,
     ))
+}
+
+#[test]
+fn a_recording_is_played_before_its_setting_is_said(rt: HostRuntime) {
+    let asked = Asked {
+        setting: words::Place::Awaited(1),
+        ..words::nothing()
+    };
+    let mut piece = [0; PIECE];
+    // the word at place 0 is the name of the program that runs, whose bytes are a recording like any other
+    let player = named(&rt, &asked, Some(0), "usage\n", &mut piece);
+    assert!(rt; player.is_ok_and(|p| p.setting == 0));
 }

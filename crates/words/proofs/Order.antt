@@ -2,9 +2,10 @@
 -- asked for. Names keep their order among themselves, and two different formats are not served. Assumes nothing.
 use mathlib.Core.Bool.{Bool, true, false, cond, ◌&&◌}
 use mathlib.Core.Logic.{◌⊎◌, inl, inr}
+use mathlib.Core.List.{List}
 use mathlib.Core.Path.{◌≡◌, refl, sym, ap, ap₂, ◌∙◌}
 use Prim.Native.Nat.{ℕ}
-use borrow.Author.Tests.{eq-eqb, ne_eqb}
+use borrow.Author.Tests.{clash, eq-eqb, ne_eqb}
 use lib.Dec.{eqb, ltb}
 use Rattle.std.specs.Prelude.{Option, None, Some}
 use Rattle.std.specs.Option.{is_none}
@@ -14,7 +15,7 @@ use Rattle.words.specs.declared.Place.{Place}
 use Rattle.words.specs.declared.Place.TheVariants.{Unasked, Awaited, At}
 use Rattle.words.specs.declared.Takes.{Takes}
 use Rattle.words.specs.declared.Asked.{Asked}
-use Rattle.words.specs.Words.{is_free, is_unasked, kept, unserved, named, formatted, heard}
+use Rattle.words.specs.Words.{word_of, is_free, is_unasked, kept, unserved, named, formatted, heard}
 
 -- what such a word does: something to the options, and nothing to the names
 record Touch : Type 0 where
@@ -131,6 +132,31 @@ format_anywhere n w e a free p q t =
 pub second_refused : (n m : ℕ) → (n ≡ 1 → ⊥) → (n ≡ m → ⊥) → (a : Asked) → Free n a → a.wrong ≡ None → (p q : ℕ) (t : Takes) → (heard (heard a p (Format n) t) q (Format m) t).wrong ≡ Some q
 second_refused n m other differ a free none p q t =
     ap (λ (x : Asked). (formatted x q m).wrong) (served n a free p) ∙ rw (ne_eqb n 1 other, ne_eqb n m differ, none) refl
+
+-- AND OF THE WORDS AS THEY ARE SPELLED, of which none asks for format 1, with nothing to know of n
+abbrev asks_for_one : Word → Bool
+asks_for_one (Format n) = eqb n 1
+asks_for_one Help = false
+asks_for_one Setting = false
+asks_for_one Number = false
+asks_for_one Name = false
+asks_for_one Unknown = false
+
+none_asks : (number two three asked late option : Bool)
+    → asks_for_one (cond number Number (cond two (Format 2) (cond three (Format 3) (cond asked Help (cond late Setting (cond option Unknown Name)))))) ≡ false
+none_asks true two three asked late option = refl
+none_asks false true three asked late option = refl
+none_asks false false true asked late option = refl
+none_asks false false false true late option = refl
+none_asks false false false false true option = refl
+none_asks false false false false false true = refl
+none_asks false false false false false false = refl
+
+pub second_spelled : (awaited : Bool) (text : List ℕ) (n m : ℕ) → word_of awaited text ≡ Format n → (n ≡ m → ⊥) → (a : Asked) → Free n a → a.wrong ≡ None → (p q : ℕ) (t : Takes) → (heard (heard a p (Format n) t) q (Format m) t).wrong ≡ Some q
+second_spelled awaited text n m spelled = second_refused n m other
+  where
+    other : n ≡ 1 → ⊥
+    other e = clash (sym (none_asks awaited _ _ _ _ _) ∙ ap asks_for_one spelled ∙ ap (λ (k : ℕ). eqb k 1) e)
 
 -- ---- `-s` with its number
 
